@@ -1,0 +1,88 @@
+-- The laws of circuits on one page, for lists, replies and buffers as document 01 words them. The proofs are in the modules named.
+use mathlib.Core.List.{_++_, List, _∷_}
+use mathlib.Core.Logic.{_⊎_}
+use mathlib.Core.Option.{some}
+use mathlib.Core.Path.{ap, ap₂, subst, sym, _∙_, _≡_}
+use Prim.Native.Nat.{_+_, _<_, _^_, ℕ, _≤_}
+use native.Mathlib.Omega.{arith}
+use lib.ListN.{length}
+use Rattle.circuit.proofs.Judging.{call-passes, done-formed, first-refused, formed-done, passes-call, refuse-done, refused-first}
+use Rattle.circuit.proofs.OddSet.{odd-set-at-most-t, t-moves-one}
+use Rattle.circuit.proofs.ReadRuns.{read-runs}
+use Rattle.circuit.proofs.Sound.{read-sound}
+use Rattle.circuit.proofs.Steps.{tables}
+use Rattle.circuit.specs.Entry.{ReadList, readBytes, readReply}
+use Rattle.circuit.specs.Faults.{Accepted, AllWellFormed, FirstFault, WellFormed, firstFault, readFault}
+use Rattle.circuit.specs.Gate.{Gate, gate, gatesOf, isT, tGates}
+use Rattle.circuit.specs.Limits.{maxWires, rowBytes, weightBytes}
+use Rattle.circuit.specs.OddSet.{members, oddSet}
+use Rattle.circuit.specs.Read.{Reading, read}
+use Rattle.circuit.specs.Run.{run}
+use Rattle.circuit.specs.Says.{says}
+use Rattle.circuit.specs.Sound.{SoundReading}
+use Rattle.circuit.specs.declared.Reply.{Reply}
+use Rattle.circuit.specs.declared.Reply.the-variants.{Done, Refused}
+
+-- ---- demand 2: nothing in the weights and rows read from a list differs from the list run gate by gate. For every n and N
+
+-- the end state and the phase of every basis state
+pub reading-is-running : (N n : ℕ) → n ≤ N → (gs : List Gate) → AllWellFormed n gs → (x : ℕ) → x < 2 ^ n → run gs x ≡ says n (read N n gs) x
+reading-is-running = read-runs
+
+-- what reading gives is sound: weights below 8 and none beyond n, rows invertible
+pub reading-is-sound : (N n : ℕ) → n ≤ N → (gs : List Gate) → AllWellFormed n gs → SoundReading N n (read N n gs)
+reading-is-sound = read-sound
+
+-- one T or T dagger put anywhere moves the size of the odd set by exactly one, up or down
+pub one-t-moves-one : (N n : ℕ) → n ≤ N → (xs ys : List Gate) (kind a b : ℕ) → AllWellFormed n xs → AllWellFormed n ys → WellFormed n (gate kind a b) → isT kind ≡ 1
+    → (members (oddSet (read N n (xs ++ gate kind a b ∷ ys) .weights)) ≡ members (oddSet (read N n (xs ++ ys) .weights)) + 1)
+    ⊎ (members (oddSet (read N n (xs ++ ys) .weights)) ≡ members (oddSet (read N n (xs ++ gate kind a b ∷ ys) .weights)) + 1)
+one-t-moves-one = t-moves-one
+
+-- so a list has at least as many T and T dagger gates as its odd set has members
+pub odd-set-no-larger : (N n : ℕ) → n ≤ N → (gs : List Gate) → AllWellFormed n gs → members (oddSet (read N n gs .weights)) ≤ tGates gs
+odd-set-no-larger = odd-set-at-most-t
+
+-- ---- demand 1: the reply of `read`
+
+-- an accepted list is read: nothing sound is refused
+pub accepted-is-read : (n : ℕ) (bytes : List ℕ) (weights rows : ℕ) → Accepted n bytes → weights ≡ weightBytes → rows ≡ rowBytes → readReply n bytes weights rows ≡ Done
+accepted-is-read n bytes weights rows a w r =
+    rw (passes-call n (length bytes) weights rows (record { some = a .some; few = a .few; whole = a .whole; short = a .short; weights-long = w; rows-long = r }))
+    (formed-done n 0 (gatesOf bytes) (a .formed))
+
+-- what is read is accepted: nothing faulty is
+pub read-is-accepted : (n : ℕ) (bytes : List ℕ) (weights rows : ℕ) → readReply n bytes weights rows ≡ Done → Accepted n bytes × (weights ≡ weightBytes) × (rows ≡ rowBytes)
+read-is-accepted n bytes weights rows e =
+    let t = refuse-done (readFault n (length bytes) weights rows) 0 (firstFault n 0 (gatesOf bytes)) e in
+    let c = call-passes n (length bytes) weights rows (t .0) in
+    (record { some = c .some; few = c .few; whole = c .whole; short = c .short; formed = done-formed n 0 (gatesOf bytes) (t .1) }, c .weights-long, c .rows-long)
+
+-- a gate's fault is the first of the list
+pub fault-is-first : (n : ℕ) (gs : List Gate) (number place : ℕ) → firstFault n 0 gs ≡ Refused number place → FirstFault n gs number place
+fault-is-first n gs number place e =
+    let t = refused-first n 0 gs number place e in
+    let p : place ≡ t .0 = omega (arith, t .1) in
+    rw p (t .2)
+
+-- and a list has only one first fault
+pub fault-is-unique : (n : ℕ) (gs : List Gate) (f i g j : ℕ) → FirstFault n gs f i → FirstFault n gs g j → (f ≡ g) × (i ≡ j)
+fault-is-unique n gs f i g j a b =
+    let e : Refused f (0 + i) ≡ Refused g (0 + j) = sym (first-refused n 0 gs f i a) ∙ first-refused n 0 gs g j b in
+    let p : 0 + i ≡ 0 + j = cc in
+    (cc, omega arith)
+
+-- ---- what the promise of `read` means: after Done the outputs tell, for every basis state, where the list brings it and with which phase
+
+module _ (n : ℕ) (bytes weights rows weights′ rows′ : List ℕ) (r : ReadList n bytes weights rows weights′ rows′ Done) where
+  accepted : Accepted n bytes
+  accepted = read-is-accepted n bytes (length weights) (length rows) (sym (r .reply)) .0
+
+  is : readBytes n bytes ≡ tables weights′ rows′
+  is = ap₂ tables (sym (r .weights-left)) (sym (r .rows-left))
+
+  pub read-tells : (x : ℕ) → x < 2 ^ n → run (gatesOf bytes) x ≡ says n (tables weights′ rows′) x
+  read-tells x l = read-runs maxWires n (accepted .few) (gatesOf bytes) (accepted .formed) x l ∙ ap (λ (y : Reading). says n y x) is
+
+  pub read-leaves-sound : SoundReading maxWires n (tables weights′ rows′)
+  read-leaves-sound = subst (λ (y : Reading). SoundReading maxWires n y) is (read-sound maxWires n (accepted .few) (gatesOf bytes) (accepted .formed))

@@ -1,0 +1,9 @@
+pub mod Bytes
+pub mod GateKinds
+pub mod Sound
+pub mod ReadRuns
+pub mod OddSet
+pub mod Judging
+pub mod Steps
+pub mod ReadWays
+pub mod Laws

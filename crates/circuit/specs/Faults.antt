@@ -1,0 +1,133 @@
+-- Document 01, "Faults": which lists are accepted, and the first fault of one that is not. A fault's number is that of the table; 0 stands for none.
+use mathlib.Core.List.{List, [], _∷_}
+use mathlib.Core.Logic.{_≢_, _⊎_}
+use mathlib.Core.Option.{some}
+use mathlib.Core.Path.{_≡_}
+use Prim.Native.Nat.{_%_, _<_, suc, zero, ℕ, _≤_}
+use lib.Dec.{eqb, leb}
+use lib.ListN.{getD, length}
+use Rattle.circuit.specs.Gate.{Gate, gate, gatesOf, kindOf}
+use Rattle.circuit.specs.Limits.{gateBytes, maxListBytes, maxWires, rowBytes, weightBytes}
+use Rattle.circuit.specs.Read.{either}
+use Rattle.circuit.specs.declared.gates.Kind.{Kind}
+use Rattle.circuit.specs.declared.gates.Kind.the-variants.{Cnot, Phase, Unknown}
+use Rattle.circuit.specs.declared.Reply.{Reply}
+use Rattle.circuit.specs.declared.Reply.the-variants.{Done, Refused}
+
+-- ---- the table's numbers that a list or a call can have
+
+-- wire count 0 or above 8
+abbrev pub wireCount : ℕ
+wireCount = 1
+
+-- list not a multiple of three bytes, or over 12,288
+abbrev pub listLength : ℕ
+listLength = 2
+
+-- kind outside 1 to 6
+abbrev pub gateKind : ℕ
+gateKind = 3
+
+-- a not below n; b not below n in a CNOT, not 0 elsewhere
+abbrev pub gateWire : ℕ
+gateWire = 4
+
+-- CNOT with a = b
+abbrev pub sameWire : ℕ
+sameWire = 5
+
+-- a lent output of another length than it must have
+abbrev pub lentOutput : ℕ
+lentOutput = 8
+
+-- ---- accepted lists
+
+-- none of faults 3, 4 and 5
+abbrev pub KindWellFormed : ℕ → Kind → ℕ → ℕ → Type 0
+KindWellFormed n Cnot a b = (a < n) × (b < n) × (a ≢ b)
+KindWellFormed n (Phase v) a b = (a < n) × (b ≡ 0)
+KindWellFormed n Unknown a b = ⊥
+
+abbrev pub WellFormed : ℕ → Gate → Type 0
+WellFormed n (gate kind a b) = KindWellFormed n (kindOf kind) a b
+
+abbrev pub AllWellFormed : ℕ → List Gate → Type 0
+AllWellFormed n [] = Unit {0}
+AllWellFormed n (g ∷ gs) = WellFormed n g × AllWellFormed n gs
+
+-- none of faults 1 to 5
+pub record Accepted (n : ℕ) (bytes : List ℕ) : Type 0 where
+  pub some : 1 ≤ n
+  pub few : n ≤ maxWires
+  pub whole : length bytes % gateBytes ≡ 0
+  pub short : length bytes ≤ maxListBytes
+  pub formed : AllWellFormed n (gatesOf bytes)
+
+-- ---- the faults of one gate, each as the table words it
+
+-- a gate has the fault of that number
+abbrev pub KindHas : ℕ → ℕ → Kind → ℕ → ℕ → Type 0
+KindHas n f Cnot a b = ((f ≡ gateWire) × ((n ≤ a) ⊎ (n ≤ b))) ⊎ ((f ≡ sameWire) × (a ≡ b))
+KindHas n f (Phase v) a b = (f ≡ gateWire) × ((n ≤ a) ⊎ (b ≢ 0))
+KindHas n f Unknown a b = f ≡ gateKind
+
+abbrev pub Has : ℕ → ℕ → Gate → Type 0
+Has n f (gate kind a b) = KindHas n f (kindOf kind) a b
+
+-- the gate at place i of a list
+abbrev pub gateAt : List Gate → ℕ → Gate
+gateAt gs i = getD gs i (gate 0 0 0)
+
+-- gates in order, 3, 4, 5 within a gate: the gates before that place have no fault, and of those that the gate there has, number is the first
+pub record FirstFault (n : ℕ) (gs : List Gate) (number place : ℕ) : Type 0 where
+  pub inside : place < length gs
+  pub before : (i : ℕ) → i < place → WellFormed n (gateAt gs i)
+  pub has : Has n number (gateAt gs place)
+  pub first : (f : ℕ) → Has n f (gateAt gs place) → number ≤ f
+
+-- ---- the same, computed
+
+-- the first of two faults, in the order of the checks
+abbrev pub orElse : ℕ → ℕ → ℕ
+orElse zero next = next
+orElse (suc fault) next = suc fault
+
+abbrev pub cnotFault : ℕ → ℕ → ℕ → ℕ
+cnotFault n a b = either (leb n a) gateWire (either (leb n b) gateWire (either (eqb a b) sameWire 0))
+
+abbrev pub phaseFault : ℕ → ℕ → ℕ → ℕ
+phaseFault n a b = either (leb n a) gateWire (either (eqb b 0) 0 gateWire)
+
+abbrev pub kindFault : ℕ → Kind → ℕ → ℕ → ℕ
+kindFault n Cnot a b = cnotFault n a b
+kindFault n (Phase v) a b = phaseFault n a b
+kindFault n Unknown a b = gateKind
+
+unfoldable pub gateFault : ℕ → Gate → ℕ
+gateFault n (gate kind a b) = kindFault n (kindOf kind) a b
+
+-- a fault found at place i, or what comes after it
+abbrev pub refuse : ℕ → ℕ → Reply → Reply
+refuse zero i rest = rest
+refuse (suc fault) i rest = Refused (suc fault) i
+
+-- the first fault of the gates, the first of which is gate i
+unfoldable pub firstFault : ℕ → ℕ → List Gate → Reply
+firstFault n i [] = Done
+firstFault n i (g ∷ gs) = refuse (gateFault n g) i (firstFault n (suc i) gs)
+
+-- ---- a call
+
+abbrev pub wiresFault : ℕ → ℕ
+wiresFault n = either (eqb n 0) wireCount (either (leb n maxWires) 0 wireCount)
+
+abbrev pub listFault : ℕ → ℕ
+listFault bytes = either (eqb (bytes % gateBytes) 0) (either (leb bytes maxListBytes) 0 listLength) listLength
+
+abbrev pub lentFault : ℕ → ℕ → ℕ
+lentFault bytes wanted = either (eqb bytes wanted) 0 lentOutput
+
+-- 1, 2 and 8 of a call that reads a list, by the lengths of the list, the weights and the rows
+unfoldable pub readFault : ℕ → ℕ → ℕ → ℕ → ℕ
+readFault n bytes weights rows =
+    orElse (wiresFault n) (orElse (listFault bytes) (orElse (lentFault weights weightBytes) (lentFault rows rowBytes)))

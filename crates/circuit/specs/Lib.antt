@@ -1,0 +1,9 @@
+pub mod Limits
+pub mod Gate
+pub mod Run
+pub mod Read
+pub mod Says
+pub mod OddSet
+pub mod Sound
+pub mod Faults
+pub mod Entry

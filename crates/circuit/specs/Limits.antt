@@ -1,0 +1,25 @@
+-- The numbers of document 01, each once. Every law takes the wire count n, and N for the most wires, as a parameter: only contracts cite these.
+use Prim.Native.Nat.{_*_, _^_, ℕ}
+
+-- a wire count is 1 to 8
+abbrev pub maxWires : ℕ
+maxWires = 8
+
+-- a gate takes three bytes
+abbrev pub gateBytes : ℕ
+gateBytes = 3
+
+abbrev pub maxGates : ℕ
+maxGates = 4096
+
+-- the longest list
+abbrev pub maxListBytes : ℕ
+maxListBytes = gateBytes * maxGates
+
+-- the weights, and the marks of an odd set: one byte for each parity
+abbrev pub weightBytes : ℕ
+weightBytes = 2 ^ maxWires
+
+-- the rows: one for each wire
+abbrev pub rowBytes : ℕ
+rowBytes = maxWires

@@ -1,0 +1,140 @@
+// The faults of document 01 that a call or a gate can have. Each function gives the fault's number, and 0 where there is none.
+ghost use mathlib.Core.Path.{_≡_};
+ghost use Rattle.circuit.specs.Gate.{gate, gatesOf};
+ghost use Rattle.circuit.specs.Faults.{wiresFault, listFault, lentFault, orElse, readFault, cnotFault, phaseFault, gateFault, firstFault};
+use crate::Reply;
+use crate::gates::Kind;
+use crate::gates::kind_of;
+use crate::limits::GATE_BYTES;
+use crate::limits::MAX_LIST_BYTES;
+use crate::limits::MAX_WIRES;
+use crate::limits::ROW_BYTES;
+use crate::limits::WEIGHT_BYTES;
+
+pub const WIRE_COUNT: u8 = 1;
+
+pub const LIST_LENGTH: u8 = 2;
+
+pub const GATE_KIND: u8 = 3;
+
+pub const GATE_WIRE: u8 = 4;
+
+pub const SAME_WIRE: u8 = 5;
+
+pub const OUTPUT: u8 = 8;
+
+// Fault 1: the wire count is 0 or above the limit.
+pub fn wires_fault(n: usize) -> u8
+    ensures { λ r. ⌜ r ≡ wiresFault n ⌝ }
+{
+    if n == 0 {
+        return WIRE_COUNT;
+    }
+    if n > MAX_WIRES {
+        return WIRE_COUNT;
+    }
+    0
+}
+
+// Fault 2: a list of that many bytes is no number of whole gates, or too long.
+pub fn list_fault(bytes: usize) -> u8
+    ensures { λ r. ⌜ r ≡ listFault bytes ⌝ }
+{
+    if bytes % GATE_BYTES != 0 {
+        return LIST_LENGTH;
+    }
+    if bytes > MAX_LIST_BYTES {
+        return LIST_LENGTH;
+    }
+    0
+}
+
+// Fault 8: a lent output has another length than it must have.
+pub fn lent_fault(bytes: usize, wanted: usize) -> u8
+    ensures { λ r. ⌜ r ≡ lentFault bytes wanted ⌝ }
+{
+    if bytes == wanted { 0 } else { OUTPUT }
+}
+
+// The first of two faults, in the order of the checks.
+pub fn or_else(fault: u8, next: u8) -> u8
+    ensures { λ r. ⌜ r ≡ orElse fault next ⌝ }
+{
+    if fault == 0 { next } else { fault }
+}
+
+// Faults 1, 2 and 8 of a call that reads a list, by the lengths lent.
+pub fn read_fault(n: usize, bytes: usize, weights: usize, rows: usize) -> u8
+    ensures { λ r. ⌜ r ≡ readFault n bytes weights rows ⌝ }
+{
+    let lent = or_else(
+        lent_fault(weights, WEIGHT_BYTES),
+        lent_fault(rows, ROW_BYTES),
+    );
+    or_else(wires_fault(n), or_else(list_fault(bytes), lent))
+}
+
+// The first of faults 3, 4 and 5 in a list, with its gate index.
+pub fn first_fault(n: usize, gates: &[u8]) -> Reply
+    ensures { λ r. ⌜ r ≡ firstFault n 0 (gatesOf (now (gates .entry))) ⌝ }
+{
+    let m = gates.len() / GATE_BYTES;
+    let mut i: usize = 0;
+    while i < m {
+        let fault = gate_fault(
+            n,
+            gates[GATE_BYTES * i],
+            gates[GATE_BYTES * i + 1],
+            gates[GATE_BYTES * i + 2],
+        );
+        if fault != 0 {
+            return Reply::Refused {
+                number: fault,
+                place: i,
+            };
+        }
+        i += 1;
+    }
+    Reply::Done
+}
+
+// Faults 3, 4 and 5 of one gate.
+fn gate_fault(n: usize, kind: u8, a: u8, b: u8) -> u8
+    ensures { λ r. ⌜ r ≡ gateFault n (gate kind a b) ⌝ }
+{
+    let said = kind_of(kind);
+    match said {
+        Kind::Cnot => cnot_fault(n, a, b),
+        Kind::Phase(_) => phase_fault(n, a, b),
+        Kind::Unknown => GATE_KIND,
+    }
+}
+
+// A CNOT: a and b below n, and different.
+fn cnot_fault(n: usize, a: u8, b: u8) -> u8
+    ensures { λ r. ⌜ r ≡ cnotFault n a b ⌝ }
+{
+    if n <= a as usize {
+        return GATE_WIRE;
+    }
+    if n <= b as usize {
+        return GATE_WIRE;
+    }
+    if a == b {
+        return SAME_WIRE;
+    }
+    0
+}
+
+// A phase gate: a below n, and b zero.
+fn phase_fault(n: usize, a: u8, b: u8) -> u8
+    ensures { λ r. ⌜ r ≡ phaseFault n a b ⌝ }
+{
+    if n <= a as usize {
+        return GATE_WIRE;
+    }
+    if b != 0 {
+        return GATE_WIRE;
+    }
+    0
+}

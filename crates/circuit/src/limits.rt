@@ -1,0 +1,23 @@
+// The limits of document 01, each once in the code. The same names stand in specs/Limits.antt, and the proofs hold the two together.
+
+// Wires 0 to MAX_WIRES - 1.
+pub const MAX_WIRES: usize = 8;
+
+// A gate takes three bytes: kind, a, b.
+pub const GATE_BYTES: usize = 3;
+
+pub const MAX_GATES: usize = 4096;
+
+pub const MAX_LIST_BYTES: usize = GATE_BYTES * MAX_GATES;
+
+// One byte for each parity.
+pub const WEIGHT_BYTES: usize = 1 << MAX_WIRES;
+
+// One parity for each wire.
+pub const ROW_BYTES: usize = MAX_WIRES;
+
+// A parity: bit i for wire i.
+pub type Parity = u8;
+
+// A weight, 0 to 7.
+pub type Weight = u8;

@@ -1,0 +1,21 @@
+-- Laws of xor on numbers, each by its bits.
+use mathlib.Core.Path.{ap, sym, _∙_, _≡_}
+use Prim.Native.Nat.{_%_, _+_, ℕ}
+use native.Mathlib.Omega.{arith}
+use lib.Bits.{bitXor, xor-add-and, xor-comm, xor-self, xor-zero-r}
+use Rattle.gf2.proofs.Bit.{bit-eq, bit-xor}
+
+pub xor-assoc : (a b c : ℕ) → bitXor (bitXor a b) c ≡ bitXor a (bitXor b c)
+xor-assoc a b c = bit-eq _ _ (λ i. simp bit-xor (omega arith))
+
+pub xor-cancel : (a b : ℕ) → bitXor (bitXor a b) b ≡ a
+xor-cancel a b = rw (xor-assoc, xor-self, xor-zero-r)
+
+pub xor-left-comm : (a b c : ℕ) → bitXor a (bitXor b c) ≡ bitXor b (bitXor a c)
+xor-left-comm a b c = sym (xor-assoc a b c) ∙ ap (λ (x : ℕ). bitXor x c) (xor-comm a b) ∙ xor-assoc b a c
+
+pub xor-right-comm : (a b c : ℕ) → bitXor (bitXor a b) c ≡ bitXor (bitXor a c) b
+xor-right-comm a b c = xor-assoc a b c ∙ ap (bitXor a) (xor-comm b c) ∙ sym (xor-assoc a c b)
+
+pub xor-mod2 : (s t : ℕ) → bitXor s t % 2 ≡ (s % 2 + t % 2) % 2
+xor-mod2 s t = omega (arith, xor-add-and s t)

@@ -1,0 +1,5 @@
+pub mod Bit
+pub mod Sum
+pub mod Parity
+pub mod Selection
+pub mod Table

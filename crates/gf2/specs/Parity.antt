@@ -1,0 +1,8 @@
+-- Document 01: "p(x) is the XOR of the bits of x that p names".
+use Prim.Native.Nat.{_%_, _*_, ℕ}
+use Rattle.gf2.specs.Bit.{bit}
+use Rattle.gf2.specs.Sum.{sum}
+
+-- p(x) on n wires: the bits of x that p names, summed modulo 2
+unfoldable pub parity : ℕ → ℕ → ℕ → ℕ
+parity n p x = sum n (λ i. bit p i * bit x i) % 2

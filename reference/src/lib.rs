@@ -1,0 +1,29 @@
+//! Document 01 once more, by brute force, to compare the proved library with.
+//!
+//! This package is written from document 01 alone and shares no idea with the proved code. It keeps no rows while it
+//! reads: it runs a list on all 2^n basis states and searches for the parity that explains what each wire holds. It is
+//! slow on purpose, so that each line can be held against a sentence of the paper.
+//!
+//! - [`gates`], [`running`]: what a gate is and what it does to a basis state.
+//! - [`parity`], [`reading`]: the parity a wire holds, found by search; weights and rows.
+//! - [`odd_set`]: the odd set and the T count.
+//! - [`faults`]: the table of faults and the order of checks.
+//! - [`demands`]: what must hold of any answer, whatever made it.
+//! - [`entries`]: the proved library's C functions.
+//! - [`lent`], [`comparison`]: lent buffers with guards around them; one call, held against the reference.
+//! - [`random`]: the generator and the random circuits.
+//!
+//! The comparisons stand in `tests/`. With the library made by `rt staticlib capi` in the repository's root, run
+//! `cargo test --release --offline` here.
+
+pub mod comparison;
+pub mod demands;
+pub mod entries;
+pub mod faults;
+pub mod gates;
+pub mod lent;
+pub mod odd_set;
+pub mod parity;
+pub mod random;
+pub mod reading;
+pub mod running;

@@ -1,0 +1,98 @@
+//! A small generator of its own, with a fixed seed for each test, and random circuits.
+
+use crate::gates::{CNOT, GATE_BYTES, MOST_WIRES, PHASE_KINDS, S, S_DAGGER, T, T_DAGGER, Z};
+
+/// The splitmix64 generator.
+pub struct Random {
+    state: u64,
+}
+
+impl Random {
+    pub fn new(seed: u64) -> Random {
+        Random { state: seed }
+    }
+
+    pub fn word(&mut self) -> u64 {
+        self.state = self.state.wrapping_add(0x9e37_79b9_7f4a_7c15);
+        let mut z = self.state;
+        z = (z ^ (z >> 30)).wrapping_mul(0xbf58_476d_1ce4_e5b9);
+        z = (z ^ (z >> 27)).wrapping_mul(0x94d0_49bb_1331_11eb);
+        z ^ (z >> 31)
+    }
+
+    /// A number below `bound`.
+    pub fn below(&mut self, bound: usize) -> usize {
+        (self.word() % bound as u64) as usize
+    }
+
+    /// A number from `low` to `high`, both included.
+    pub fn between(&mut self, low: usize, high: usize) -> usize {
+        low + self.below(high - low + 1)
+    }
+
+    pub fn one_of<A: Copy>(&mut self, choices: &[A]) -> A {
+        choices[self.below(choices.len())]
+    }
+
+    pub fn byte(&mut self) -> u8 {
+        self.word().to_le_bytes()[7]
+    }
+
+    pub fn bytes(&mut self, length: usize) -> Vec<u8> {
+        let words = length.div_ceil(8);
+        let mut bytes: Vec<u8> = (0..words).flat_map(|_| self.word().to_le_bytes()).collect();
+        bytes.truncate(length);
+        bytes
+    }
+
+    fn sixteenths(&mut self, share: usize) -> bool {
+        self.below(16) < share
+    }
+}
+
+/// What the gates of one random circuit are drawn from. A circuit draws its own taste first, so that circuits of
+/// CNOTs alone, of phases alone, of T alone and on few wires all come up.
+struct Taste {
+    wires: Vec<u8>,
+    cnots_in_sixteen: usize,
+    phase_kinds: &'static [u8],
+}
+
+impl Taste {
+    fn draw(random: &mut Random, n: usize) -> Taste {
+        let all: Vec<u8> = (0..n as u8).collect();
+        let some: Vec<u8> = all.iter().copied().filter(|_| random.sixteenths(8)).collect();
+        let few = random.sixteenths(4) && !some.is_empty();
+        Taste {
+            wires: if few { some } else { all },
+            cnots_in_sixteen: random.one_of(&[0, 1, 4, 8, 8, 12, 15, 16]),
+            phase_kinds: random.one_of(&[&PHASE_KINDS[..], &PHASE_KINDS, &[T, T_DAGGER], &[T], &[S, Z, S_DAGGER]]),
+        }
+    }
+
+    fn gate(&self, random: &mut Random) -> [u8; GATE_BYTES] {
+        let place = random.below(self.wires.len());
+        let a = self.wires[place];
+        if self.wires.len() > 1 && random.sixteenths(self.cnots_in_sixteen) {
+            // A step of 1 up to all but one around the wires never comes back to the same wire.
+            let step = random.between(1, self.wires.len() - 1);
+            return [CNOT, a, self.wires[(place + step) % self.wires.len()]];
+        }
+        [random.one_of(self.phase_kinds), a, 0]
+    }
+}
+
+/// A random accepted list of exactly `length` gates on n wires.
+pub fn circuit(random: &mut Random, n: usize, length: usize) -> Vec<u8> {
+    assert!((1..=MOST_WIRES).contains(&n));
+    let taste = Taste::draw(random, n);
+    (0..length).flat_map(|_| taste.gate(random)).collect()
+}
+
+/// Every gate that is accepted on n wires.
+pub fn all_gates(n: usize) -> Vec<[u8; GATE_BYTES]> {
+    let wires = 0..n as u8;
+    let cnots = wires.clone().flat_map(|a| wires.clone().map(move |b| [CNOT, a, b])).filter(|[_, a, b]| a != b);
+    let phases = wires.clone().flat_map(|a| PHASE_KINDS.map(|kind| [kind, a, 0]));
+    cnots.chain(phases).collect()
+}
