@@ -1,0 +1,6 @@
+pub mod Sets
+pub mod Even
+pub mod Flips
+pub mod Change
+pub mod Keep
+pub mod Shrink

@@ -1,0 +1,7 @@
+pub mod Sets
+pub mod Move
+pub mod CarryOut
+pub mod Log
+pub mod Replay
+pub mod Product
+pub mod Kappa
