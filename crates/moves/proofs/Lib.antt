@@ -4,3 +4,5 @@ pub mod Flips
 pub mod Change
 pub mod Keep
 pub mod Shrink
+pub mod Product
+pub mod Bound
