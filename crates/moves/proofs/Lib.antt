@@ -9,3 +9,4 @@ pub mod Bound
 pub mod Kappa
 pub mod Pair
 pub mod Spell
+pub mod Finder

@@ -42,40 +42,39 @@ module _ (size n most : ℕ) (room : 2 ^ n ≤ size) (marks : List ℕ) (sound :
   b-lt = omega (arith, member-lt size n marks sound b mb)
 
   -- a set of members with a and without b, whose columns xor to 0
-  pub legal-listed : (g : ℕ → ℕ) → ((p : ℕ) → g p < 2) → ((p : ℕ) → g p ≡ 1 → Member marks p) → g a ≡ 1 → g b ≡ 0 → sum size g ≤ most
-      → xorAll (map κ (listed size g)) ≡ 0 → Offer most n marks a b
-  legal-listed g two only-members on-a off-b few zeroes =
-      record {
-        Y = Y;
-        legal =
-            record {
-              few = omega (arith, listed-length g two size);
-              ordered = listed-ascending size g;
-              marked = member;
-              separates = record { a = a; b = b; a-in = in-a; b-member = mb; b-out = out-b; z-is = refl };
-              balanced = balanced-iff n (bitXor a b) t t-lt z-t Y (λ i l. member-lt size n marks sound (getD Y i 0) (member (getD Y i 0) (i, l, refl))) .1 zeroes;
-            };
-        a-in = in-a;
-        b-out = out-b;
-      }
-    where
-      Y : List ℕ
-      Y = listed size g
+  module _ (g : ℕ → ℕ) (two : (p : ℕ) → g p < 2) (only-members : (p : ℕ) → g p ≡ 1 → Member marks p) (on-a : g a ≡ 1) (off-b : g b ≡ 0) where
+    member : (y : ℕ) → In y (listed size g) → Member marks y
+    member y i = only-members y (listed-in g two size y i)
 
-      member : (y : ℕ) → In y Y → Member marks y
-      member y i = only-members y (listed-in g two size y i)
+    in-a : In a (listed size g)
+    in-a = in-listed g two size a a-lt on-a
 
-      in-a : In a Y
-      in-a = in-listed g two size a a-lt on-a
+    out-b : In b (listed size g) → ⊥
+    out-b = out-occ b (listed size g) (listed-occ g two size b b-lt ∙ off-b)
 
-      out-b : In b Y → ⊥
-      out-b = out-occ b Y (listed-occ g two size b b-lt ∙ off-b)
+    pub legal-listed : sum size g ≤ most → xorAll (map κ (listed size g)) ≡ 0 → Legal most n marks (bitXor a b) (listed size g)
+    legal-listed few zeroes =
+        record {
+          few = omega (arith, listed-length g two size);
+          ordered = listed-ascending size g;
+          marked = member;
+          separates = record { a = a; b = b; a-in = in-a; b-member = mb; b-out = out-b; z-is = refl };
+          balanced =
+              balanced-iff n (bitXor a b) t t-lt z-t (listed size g)
+              (λ i l. member-lt size n marks sound (getD (listed size g) i 0) (member (getD (listed size g) i 0) (i, l, refl))) .1 zeroes;
+        }
 
   pub offer : Reach most n t marks a b → Offer most n marks a b
   offer r =
-      legal-listed g two only-members (omega (arith, delta-same a, no-a)) (omega (arith, delta-other a b (λ e. apart (sym e)), no-b))
-      (omega (arith, listed-length g two size, length-sumOver (listed size g), length-sumOver W, sums (λ y. 1), r .few))
-      (xorAll-more κ a (listed size g) W (λ c. ap (λ (x : ℕ). x % 2) (sums c)) ∙ rw (r .reaches) (xor-self (κ a)))
+      record {
+        Y = listed size g;
+        legal =
+            legal-listed g two only-members on-a off-b
+            (omega (arith, listed-length g two size, length-sumOver (listed size g), length-sumOver W, sums (λ y. 1), r .few))
+            (xorAll-more κ a (listed size g) W (λ c. ap (λ (x : ℕ). x % 2) (sums c)) ∙ rw (r .reaches) (xor-self (κ a)));
+        a-in = in-a g two only-members on-a off-b;
+        b-out = out-b g two only-members on-a off-b;
+      }
     where
       W : List ℕ
       W = r .W
@@ -88,6 +87,12 @@ module _ (size n most : ℕ) (room : 2 ^ n ≤ size) (marks : List ℕ) (sound :
 
       no-b : occ b W ≡ 0
       no-b = occ-out b W (λ i. r .others b i .not-b refl)
+
+      on-a : delta a a + occ a W ≡ 1
+      on-a = omega (arith, delta-same a, no-a)
+
+      off-b : delta a b + occ b W ≡ 0
+      off-b = omega (arith, delta-other a b (λ e. apart (sym e)), no-b)
 
       two : (p : ℕ) → delta a p + occ p W < 2
       two p = go (ℕ-discrete p a)
