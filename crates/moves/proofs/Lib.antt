@@ -10,3 +10,5 @@ pub mod Kappa
 pub mod Pair
 pub mod Spell
 pub mod Finder
+pub mod Wires
+pub mod Log

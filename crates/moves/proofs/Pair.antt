@@ -5,7 +5,7 @@ use mathlib.Core.Path.{_∙_, _≡_, ap, refl, subst, sym}
 use Prim.Native.Nat.{_%_, _+_, _-_, _<_, _^_, _≤_, ℕ}
 use native.Mathlib.Decide.{decLt, ℕ-discrete}
 use native.Mathlib.Omega.{arith}
-use lib.Bits.{bitXor, xor-self}
+use lib.Bits.{bitXor, xor-lt, xor-self}
 use lib.ListN.{getD}
 use Rattle.circuit.specs.Sound.{SoundMarks}
 use Rattle.gf2.proofs.Bit.{bit-of-zero}
@@ -199,3 +199,14 @@ none-both most n marks none = none-offered most n marks (λ a b ma mb ne. go a b
     go : (a b : ℕ) → Member marks a → Member marks b → a ≢ b → Dec (a < b) → Offer most n marks a b → ⊥
     go a b ma mb ne (yes l) = none a b ma mb l .0
     go a b ma mb ne (no l) = none b a mb ma (omega arith) .1
+
+-- with low z a wire of z: where no pair reaches, no move is legal
+pub none-reached : (size n most : ℕ) → 2 ^ n ≤ size → (marks : List ℕ) → SoundMarks size n marks
+    → (low : ℕ → ℕ) → ((z : ℕ) → z ≢ 0 → z < 2 ^ n → (low z < n) × (bit z (low z) ≡ 1))
+    → ((a b : ℕ) → Member marks a → Member marks b → a ≢ b → Reach most n (low (bitXor a b)) marks a b → ⊥)
+    → (z : ℕ) (Y : List ℕ) → Legal most n marks z Y → ⊥
+none-reached size n most room marks sound low is-low none =
+    none-offered most n marks
+    (λ a b ma mb ne o.
+    let h = is-low (bitXor a b) (λ e. ne (xor-equal a b e)) (xor-lt n a b (member-lt size n marks sound a ma) (member-lt size n marks sound b mb)) in
+    none a b ma mb ne (reach size n most room marks sound a b (low (bitXor a b)) ma mb (h .0) (h .1) o))
