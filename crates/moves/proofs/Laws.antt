@@ -10,7 +10,7 @@ use lib.Count.{trailingZeros}
 use lib.Dec.{T}
 use lib.ListN.{length}
 use lib.Pow.{pow-mono}
-use Rattle.circuit.specs.Limits.{maxMembers, maxWires, productBits, weightBytes}
+use Rattle.circuit.specs.Limits.{logBytes, maxMembers, maxWires, moveBytes, productBits, weightBytes}
 use Rattle.circuit.specs.OddSet.{members, oddSet}
 use Rattle.circuit.specs.Sound.{SoundMarks}
 use Rattle.gf2.proofs.Leading.{lowest}
@@ -122,3 +122,7 @@ limits-suffice n h = (pow-mono {i = n} {j = maxWires} h, few, refl)
   where
     few : n * (n + 1) / 2 + 1 ≤ maxMembers
     few = omega (arith, tri-mono n maxWires h)
+
+-- document 01's numbers: entries of 36 bits, forty bytes a move, a log of 10,200
+pub limits-numbers : (productBits ≡ 36) × (moveBytes ≡ 40) × (logBytes ≡ 10200)
+limits-numbers = (refl, refl, refl)
