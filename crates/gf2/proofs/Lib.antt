@@ -6,3 +6,6 @@ pub mod Parity
 pub mod Selection
 pub mod Digits
 pub mod Table
+pub mod Brute
+pub mod Symmetric
+pub mod Expansion
