@@ -5,3 +5,4 @@ pub mod TableRule
 pub mod Ways
 pub mod Places
 pub mod RestSteps
+pub mod Laws

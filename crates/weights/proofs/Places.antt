@@ -1,12 +1,14 @@
 -- Where the tables of coefficients and of rests keep what: place i for a wire, N j + i for two, N N k + N j + i for three.
 use mathlib.Core.List.{List}
 use mathlib.Core.Path.{ap, sym, _∙_, _≡_}
-use Prim.Native.Nat.{_%_, _*_, _+_, _/_, _<_, ℕ}
+use Prim.Native.Nat.{_%_, _*_, _+_, _/_, _<_, ℕ, _≤_}
 use native.Mathlib.Nat.{mul-comm, mul-le-mul-left, mul-suc}
 use native.Mathlib.Omega.{arith}
 use lib.Arith.{digits-div, digits-mod}
 use lib.ListN.{getD, length}
+use borrow.Author.Tests.{lt-ltb}
 use Rattle.gf2.proofs.Table.{getD-tabulate, length-tabulate}
+use Rattle.phase.specs.Coefficients.{c, l, q}
 use Rattle.phase.specs.NewWeights.{oneRest, pairRest}
 use Rattle.weights.specs.Rests.{oneRests, pairRests}
 use Rattle.weights.specs.Tables.{cEntry, cTable, lEntry, lTable, qEntry, qTable}
@@ -70,3 +72,24 @@ module _ (N i j : ℕ) (hi : i < N) where
 -- two wires: the rest stands at N j + i
 pub pair-rest-at : (N : ℕ) (w u : List ℕ) (i j : ℕ) → i < N → j < N → getD (pairRests N w u) (N * j + i) 0 ≡ pairRest w u i j
 pair-rest-at N w u i j hi hj = sym (pair-at N w u (N * j + i) (place-lt N i j hi N hj)) ∙ rw (first-wire N i j hi, second-wire N i j hi)
+
+-- ---- the coefficients, for wires in order below n
+
+module _ (N n : ℕ) (w : List ℕ) (fit : n ≤ N) where
+  pub l-place : (i : ℕ) → i < n → getD (lTable N n w) i 0 ≡ l w i
+  l-place i h = sym (l-at N n w i (omega arith)) ∙ simp (lt-ltb i n h)
+
+  pub q-place : (i j : ℕ) → i < j → j < n → getD (qTable N n w) (N * j + i) 0 ≡ q w i j
+  q-place i j h g =
+      let hi : i < N = omega arith in
+      sym (q-at N n w (N * j + i) (place-lt N i j hi N (omega arith))) ∙ rw (first-wire N i j hi, second-wire N i j hi) (simp (lt-ltb i j h, lt-ltb j n g))
+
+  pub c-place : (i j k : ℕ) → i < j → j < k → k < n → getD (cTable N n w) (N * N * k + (N * j + i)) 0 ≡ c w i j k
+  c-place i j k h g f =
+      let hi : i < N = omega arith in
+      let low : N * j + i < N * N = place-lt N i j hi N (omega arith) in
+      let inside : N * N * k + (N * j + i) < N * (N * N) = rw (mul-comm N (N * N)) (place-lt (N * N) (N * j + i) k low N (omega arith)) in
+      let apart : N * N * k + (N * j + i) ≡ N * (N * k + j) + i = omega arith in
+      let first : (N * N * k + (N * j + i)) % N ≡ i = rw apart (first-wire N i (N * k + j) hi) in
+      let second : (N * N * k + (N * j + i)) / N % N ≡ j = rw (apart, second-wire N i (N * k + j) hi) (first-wire N j k (omega arith)) in
+      sym (c-at N n w (N * N * k + (N * j + i)) inside) ∙ rw (first, second, second-wire (N * N) (N * j + i) k low) (simp (lt-ltb i j h, lt-ltb j k g, lt-ltb k n f))

@@ -5,7 +5,7 @@ use mathlib.Core.Path.{ap, ap₂, refl, sym, _∙_, _≡_}
 use Prim.Native.Nat.{ℕ, _≤_}
 use native.Mathlib.Omega.{arith}
 use lib.ListN.{length}
-use Rattle.circuit.proofs.Judging.{lent-pass, or-pass, refused, wires-pass}
+use Rattle.circuit.proofs.Judging.{lent-pass, or-pass, or-well, refused, wires-pass, wires-well}
 use Rattle.circuit.specs.Faults.{lentFault, orElse, wiresFault}
 use Rattle.circuit.specs.Limits.{maxWires, pairBytes, tripleBytes, weightBytes}
 use Rattle.circuit.specs.OddSet.{oddSet}
@@ -27,11 +27,15 @@ module _ (f g : ℕ) (e : f ≡ g) where
   done z = rw (← e, z)
 
 -- no fault: each check has passed
-pub call-passes : (n lent table : ℕ) → callFault n lent table ≡ 0 → (n ≤ maxWires) × (lent ≡ 0) × (table ≡ 0)
+pub call-passes : (n lent table : ℕ) → callFault n lent table ≡ 0 → (1 ≤ n) × (n ≤ maxWires) × (lent ≡ 0) × (table ≡ 0)
 call-passes n lent table e =
     let a = or-pass (wiresFault n) (orElse lent table) e in
     let b = or-pass lent table (a .1) in
-    (wires-pass n (a .0) .1, b .0, b .1)
+    let w = wires-pass n (a .0) in
+    (w .0, w .1, b .0, b .1)
+
+pub passes-call : (n lent table : ℕ) → 1 ≤ n → n ≤ maxWires → lent ≡ 0 → table ≡ 0 → callFault n lent table ≡ 0
+passes-call n lent table a b e f = or-well (wiresFault n) (orElse lent table) (wires-well n a b) (or-well lent table e f)
 
 -- ---- odd_set
 
@@ -40,11 +44,11 @@ module _ (n : ℕ) (w m : List ℕ) (f : ℕ) (e : f ≡ oddSetFault n w (length
   odd-refused h = record { reply = refusal f (oddSetFault n w (length m)) e h; marks-left = refl }
 
   module _ (z : f ≡ 0) where
-    passed : (n ≤ maxWires) × (lentFault (length m) weightBytes ≡ 0) × (weightsFault n w ≡ 0)
+    passed : (1 ≤ n) × (n ≤ maxWires) × (lentFault (length m) weightBytes ≡ 0) × (weightsFault n w ≡ 0)
     passed = call-passes n (lentFault (length m) weightBytes) (weightsFault n w) (sym e ∙ z)
 
     pub odd-fits : length w ≡ length m
-    odd-fits = weights-sound weightBytes n w .0 (passed .2) .long ∙ sym (lent-pass (length m) weightBytes (passed .1))
+    odd-fits = weights-sound weightBytes n w .0 (passed .3) .long ∙ sym (lent-pass (length m) weightBytes (passed .2))
 
     pub odd-done : (m′ : List ℕ) → m′ ≡ oddSet w → OddSetOf n w m m′ Done
     odd-done m′ p = record { reply = done f (oddSetFault n w (length m)) e z; marks-left = p }
@@ -62,9 +66,9 @@ module _ (n : ℕ) (w l q c : List ℕ) (f : ℕ) (e : f ≡ coefficientsFault n
     tables-fit =
         let pairs : ℕ = orElse (lentFault (length q) pairBytes) (lentFault (length c) tripleBytes) in
         let a = call-passes n (tablesFault (length l) (length q) (length c)) (weightsFault n w) (sym e ∙ z) in
-        let b = or-pass (lentFault (length l) maxWires) pairs (a .1) in
+        let b = or-pass (lentFault (length l) maxWires) pairs (a .2) in
         let d = or-pass (lentFault (length q) pairBytes) (lentFault (length c) tripleBytes) (b .1) in (
-          weights-sound weightBytes n w .0 (a .2) .long,
+          weights-sound weightBytes n w .0 (a .3) .long,
           lent-pass (length l) maxWires (b .0),
           lent-pass (length q) pairBytes (d .0),
           lent-pass (length c) tripleBytes (d .1),
@@ -84,11 +88,11 @@ module _ (n : ℕ) (w m out : List ℕ) (f : ℕ) (e : f ≡ newWeightsFault n w
     pub new-fits : (n ≤ maxWires) × (length w ≡ weightBytes) × (length m ≡ weightBytes) × (length out ≡ weightBytes)
     new-fits =
         let a = call-passes n (lentFault (length out) weightBytes) (orElse (weightsFault n w) (marksFault n m)) (sym e ∙ z) in
-        let b = or-pass (weightsFault n w) (marksFault n m) (a .2) in (
-          a .0,
+        let b = or-pass (weightsFault n w) (marksFault n m) (a .3) in (
+          a .1,
           weights-sound weightBytes n w .0 (b .0) .long,
           marks-sound weightBytes n m .0 (b .1) .long,
-          lent-pass (length out) weightBytes (a .1),
+          lent-pass (length out) weightBytes (a .2),
         )
 
     pub new-done : (out′ : List ℕ) → out′ ≡ newWeights weightBytes n w m → NewWeightsOf n w m out out′ Done
