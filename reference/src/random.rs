@@ -1,7 +1,9 @@
 //! A small generator of its own, with a fixed seed for each test, and random circuits, weights, odd sets and rows.
 
 use crate::demands::are_invertible;
+use crate::existence::separating;
 use crate::gates::{CNOT, GATE_BYTES, MOST_WIRES, PHASE_KINDS, S, S_DAGGER, T, T_DAGGER, Z};
+use crate::moves::{members, Move};
 use crate::odd_set::Marks;
 use crate::reading::{Rows, Weights, ROWS_BYTES, WEIGHTS_BYTES};
 
@@ -145,4 +147,22 @@ pub fn add_even_weights(random: &mut Random, n: usize, weights: &Weights) -> Wei
         *weight = (*weight + random.one_of(&[0, 0, 2, 4, 6])) % 8;
     }
     changed
+}
+
+/// A random legal move on this odd set: random pairs are asked, each on the pair and some of the other members only, so
+/// that the same set gives many moves. None if no try succeeds.
+pub fn legal_move(random: &mut Random, n: usize, marks: &Marks) -> Option<Move> {
+    let odd_set = members(marks);
+    (0..20).filter(|_| odd_set.len() > 1).find_map(|_| {
+        let (a, b) = (random.one_of(&odd_set), random.one_of(&odd_set));
+        let share = random.between(4, 16);
+        let mut some = *marks;
+        for y in odd_set.iter().filter(|y| **y != a && **y != b) {
+            some[usize::from(*y)] = u8::from(random.sixteenths(share));
+        }
+        if a == b {
+            return None;
+        }
+        separating(n, &some, a, b)
+    })
 }
