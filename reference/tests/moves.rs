@@ -78,26 +78,28 @@ fn random_odd_sets_on_many_wires() {
     }
 }
 
-/// Sets without a move, one parity flipped at a time: near the border between none and some.
+/// Sets that random moves have brought to their end, with a few parities flipped: near the border between none and some.
 #[test]
 fn near_the_end_of_moves() {
     let mut random = Random::new(224);
     let mut told = [0, 0];
-    for n in [4, 5, 6] {
+    for n in [4, 5, 6, 7] {
         for _ in 0..4 {
-            let mut marks = marks(&mut random, n, (1 << n) - 1);
-            while let Some(step) = legal_move(&mut random, n, &marks) {
-                marks = carry_out(n, &marks, &step.to_bytes(), &mut random).expect("the move is legal");
+            let mut end = marks(&mut random, n, 1 << (n - 1));
+            while let Some(step) = legal_move(&mut random, n, &end) {
+                end = carry_out(n, &end, &step.to_bytes(), &mut random).expect("the move is legal");
             }
-            for p in 1..1 << n {
-                let mut near = marks;
-                near[p] ^= 1;
+            for round in 0..40 {
+                let mut near = end;
+                for _ in 0..round % (n + 1) {
+                    near[random.between(1, (1 << n) - 1)] ^= 1;
+                }
                 let found = find(n, &near, 40, &mut random).expect("sound marks").is_some();
                 told[usize::from(found)] += 1;
             }
         }
     }
-    assert!(told[0] > 20 && told[1] > 20, "both answers came up: {told:?}");
+    assert!(told[0] > 50 && told[1] > 50, "both answers came up: {told:?}");
 }
 
 /// Sets whose every pair serves one way round only, always with the smaller in Y, or always with the larger: a finder that
@@ -210,7 +212,7 @@ fn every_move_of_a_small_set() {
     assert!(accepted > 0, "legal moves came up");
 }
 
-/// Moves as large as they may be: three with the same pair a, b, added up, are one more with that pair.
+/// Moves as large as they may be: an odd number of moves with the same pair a, b, added up, is one more with that pair.
 #[test]
 fn moves_of_up_to_the_most_members() {
     let mut random = Random::new(229);
@@ -229,7 +231,7 @@ fn moves_of_up_to_the_most_members() {
         }
         for _ in 0..40 {
             let mut sum = [0; 256];
-            for _ in 0..3 {
+            for _ in 0..random.one_of(&[3, 5, 7]) {
                 let place = random.below(solutions.len());
                 solutions[place].iter().for_each(|y| sum[usize::from(*y)] ^= 1);
             }
