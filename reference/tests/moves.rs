@@ -1,9 +1,10 @@
 //! Carrying out, finding and logging moves with the library, held against the reference.
 
+use sulmedra_reference::coefficients::triples;
 use sulmedra_reference::comparison::moves::{carry_out, find, move_at};
 use sulmedra_reference::entries::Reply;
 use sulmedra_reference::existence::separating;
-use sulmedra_reference::moves::{is_legal, members, Move, MOST_IN_Y};
+use sulmedra_reference::moves::{is_legal, members, triple_term, Move, MOST_IN_Y};
 use sulmedra_reference::odd_set::{size, Marks};
 use sulmedra_reference::random::{legal_move, marks, Random};
 
@@ -212,6 +213,24 @@ fn every_move_of_a_small_set() {
     assert!(accepted > 0, "legal moves came up");
 }
 
+/// Y of wires j, k and both, with z of wire i alone, fails at the triple of the three and nowhere else.
+#[test]
+fn each_triple_by_itself() {
+    let mut random = Random::new(234);
+    for n in 3..=8 {
+        for (i, j, k) in triples(n).flat_map(|(i, j, k)| [(i, j, k), (j, i, k), (k, i, j)]) {
+            let (z, one, other) = (1 << i, 1 << j, 1 << k);
+            let step = Move { z, y: vec![one, other, one | other] };
+            let odd = |wires: &_| step.y.iter().filter(|y| triple_term(z, **y, *wires) == 1).count() % 2 == 1;
+            assert_eq!(triples(n).filter(odd).count(), 1);
+            let mut marks = odd_set_of([one, other, one | other, one | z].map(usize::from));
+            (0..4).for_each(|_| marks[random.between(1, (1 << n) - 1)] = 1);
+            let answer = carry_out(n, &marks, &step.to_bytes(), &mut random);
+            assert_eq!(answer, Err(refused(10)), "n = {n}, z of wire {i}, Y of wires {j} and {k}");
+        }
+    }
+}
+
 /// Moves as large as they may be: an odd number of moves with the same pair a, b, added up, is one more with that pair.
 #[test]
 fn moves_of_up_to_the_most_members() {
@@ -274,11 +293,11 @@ fn bytes_that_are_no_move() {
         bytes.swap(place, place + 1);
         assert_eq!(carry_out(4, &all, &bytes, &mut random), Err(refused(10)), "not ascending at {place}");
     }
-    // A member twice, and its neighbour twice: the XOR and the triples come out even.
-    let mut twice = Move { z: 1, y: vec![2, 2, 4, 6, 8, 8, 8, 10, 12, 14] }.to_bytes();
-    assert_eq!(carry_out(4, &all, &twice, &mut random), Err(refused(10)));
-    twice[1] = 9;
-    assert_eq!(carry_out(4, &all, &twice, &mut random), Err(refused(10)));
+    // A byte once more, or twice more: the XOR and the triples come out even all the same, but Y is no set.
+    for y in [[2, 2, 2, 4, 6, 8, 10, 12, 14], [2, 3, 3, 4, 6, 8, 10, 12, 14], [2, 4, 6, 8, 10, 12, 14, 14, 14]] {
+        let twice = Move { z: 1, y: y.to_vec() }.to_bytes();
+        assert_eq!(carry_out(4, &all, &twice, &mut random), Err(refused(10)), "{y:?}");
+    }
 }
 
 #[test]
