@@ -119,13 +119,13 @@ impl Basis {
 }
 
 /// A legal move, or None exactly when there is none: pairs a < b ascending, the first that serves.
-pub fn find(_n: usize, marks: &Marks) -> Option<Move> {
+pub fn find(n: usize, marks: &Marks) -> Option<Move> {
     let odd_set = members(marks);
     let mut basis =
         Basis { vectors: [0; PRODUCT_BITS], made_of: [0; PRODUCT_BITS], member: [0; PRODUCT_BITS], filled: 0 };
     for (place, a) in odd_set.iter().enumerate() {
         for b in &odd_set[place + 1..] {
-            if let Some(step) = separating(&odd_set, *a, *b, &mut basis) {
+            if let Some(step) = separating(n, &odd_set, *a, *b, &mut basis) {
                 return Some(step);
             }
         }
@@ -135,7 +135,7 @@ pub fn find(_n: usize, marks: &Marks) -> Option<Move> {
 
 /// A legal move with z = a XOR b and exactly one of the two in Y.
 #[inline]
-fn separating(odd_set: &[u8], a: u8, b: u8, basis: &mut Basis) -> Option<Move> {
+fn separating(n: usize, odd_set: &[u8], a: u8, b: u8, basis: &mut Basis) -> Option<Move> {
     let z = a ^ b;
     let t = z.trailing_zeros();
     let own = 1u64 << (t * (t + 1) / 2 + t);
@@ -143,10 +143,15 @@ fn separating(odd_set: &[u8], a: u8, b: u8, basis: &mut Basis) -> Option<Move> {
         let names_t = y >> t & 1;
         PRODUCTS[usize::from(y ^ (z & names_t.wrapping_neg()))] | own & u64::from(names_t).wrapping_neg()
     };
+    // No product names t but its own place, so there are no more independent ones than these.
+    let most = (n * (n - 1) / 2 + 1) as u32;
     basis.filled = 0;
     for y in odd_set {
         if *y != a && *y != b {
             basis.insert(conditions(*y), *y);
+            if basis.filled.count_ones() == most {
+                break;
+            }
         }
     }
     for inside in [a, b] {

@@ -70,20 +70,23 @@ fn random_weights_and_rows() {
     }
 }
 
-/// Weights that take two gates on every parity, and many tables of rows: the longest lists are within the limit. A table
-/// that gave a longer list is changed further, so that the search goes where lists are long.
+/// Weights that take two gates on every parity, and rows that take many CNOTs: the longest lists are within the limit.
+/// The first rows name all wires but the first, then all but the last: brought about column by column, they take all but
+/// one of n². From there the search goes on wherever lists get no shorter.
 #[test]
 fn the_longest_lists() {
     let mut random = Random::new(244);
-    for n in 1..=8 {
+    for n in 2..=8 {
         let mut table = [0; 256];
         table[1..1 << n].iter_mut().for_each(|weight| *weight = random.one_of(&[3, 5]));
-        let mut longest = rows(&mut random, n);
+        let mut longest = same_wires(n);
+        longest[0] = ((1u16 << n) - 2) as u8;
+        longest[n - 1] = (1 << (n - 1)) - 1;
         let mut most = 0;
-        for _ in 0..60 {
+        for round in 0..60 {
             let mut wanted = longest;
             let (a, b) = (random.below(n), random.below(n));
-            if a != b {
+            if round > 0 && a != b {
                 wanted[a] ^= wanted[b];
             }
             let list = write(n, &table, &wanted, 6336, &mut random).expect("sound weights and rows");
