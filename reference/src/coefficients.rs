@@ -51,8 +51,8 @@ pub fn signature(n: usize, weights: &Weights) -> Coefficients {
     found
 }
 
-/// The phase on x that the coefficients tell: l(i), 2·q(i,j) and 4·c(i,j,k) over the wires, pairs and triples whose bits
-/// of x are all set.
+/// The phase on x that the coefficients tell: l(i), 2·q(i,j) and 4·c(i,j,k) over the wires, pairs and triples whose
+/// bits of x are all set.
 pub fn phase(n: usize, coefficients: &Coefficients, x: u16) -> u8 {
     let set = |wire: usize| x >> wire & 1 == 1;
     let mut sum = 0u32;

@@ -1,14 +1,14 @@
 //! Whether a legal move exists, from the paper's conditions as they stand.
 //!
-//! For each a and b, in this order, z is a XOR b and the conditions on Y are equations modulo 2, one for each wire and one
-//! for each triple of wires. The unknowns tell which of the other members lie in Y; a does and b does not. The equations
-//! are solved row by row.
+//! For each a and b, in this order, z is a XOR b and the conditions on Y are equations modulo 2, one for each wire and
+//! one for each triple of wires. The unknowns tell which of the other members lie in Y; a does and b does not. The
+//! equations are solved row by row.
 //!
 //! The paper allows at most 38 members in Y, and the equations do not speak of their number. But a solution that leaves
 //! every free unknown out of Y has at most as many members as there are independent equations, besides a. So one of at
 //! most 38 exists wherever any exists, as long as at most 37 equations are independent; each elimination checks this of
-//! itself. It holds always: once z is brought to a single wire by a change of the wires, only the triples with that wire
-//! say anything, and n wires and (n - 1)(n - 2)/2 pairs of the others are at most 29.
+//! itself. It holds always: once z is brought to a single wire by a change of the wires, only the triples with that
+//! wire say anything, and n wires and (n - 1)(n - 2)/2 pairs of the others are at most 29.
 
 use crate::coefficients::triples;
 use crate::moves::{is_legal, members, triple_term, Move, MOST_IN_Y};

@@ -2,8 +2,8 @@
 //!
 //! The search: for a pair a < b of members let z = a XOR b, t the lowest wire of z. Adding z to a parity y that names t
 //! takes t away; products of the other wires then tell all triple conditions at once, and t's own place in the product
-//! tells whether z was added. So one 36-bit number per member stands for all the conditions on it, and a basis under XOR
-//! finds the sets Y. The same trim also runs with another finder, given from outside.
+//! tells whether z was added. So one 36-bit number per member stands for all the conditions on it, and a basis under
+//! XOR finds the sets Y. The same trim also runs with another finder, given from outside.
 
 use crate::gates::{gates_of, phase_of, CNOT, GATE_BYTES, T, T_DAGGER};
 use crate::moves::{carry_out, members, Move};
@@ -171,8 +171,8 @@ pub fn new_weights(n: usize, weights: &Weights, marks: &Marks) -> Weights {
     let difference = |p: usize| u32::from(8 + weights[p] - marks[p]);
     let mut table = *marks;
     let mut singles = [0; 8];
-    for i in 0..n {
-        singles[i] = (0..1 << n).filter(|p| p >> i & 1 == 1).map(difference).sum::<u32>();
+    for (i, single) in singles[..n].iter_mut().enumerate() {
+        *single = (0..1 << n).filter(|p| p >> i & 1 == 1).map(difference).sum::<u32>();
     }
     for j in 0..n {
         for i in 0..j {

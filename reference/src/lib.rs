@@ -16,11 +16,12 @@
 //! - [`entries`]: the proved library's C functions.
 //! - [`lent`], [`comparison`]: lent buffers with guards around them; one call, held against the reference.
 //! - [`random`]: the generator and the random circuits, weights, odd sets and rows.
-//! - [`fast`], [`published`]: a trimmer built for speed, and the published search taken literally, for the benchmark. The
-//!   first does share an idea with the proved code, so no comparison with the library rests on it.
+//! - [`fast`], [`published`]: for the benchmark, a trimmer built for speed and the published search taken literally. The
+//!   first does share an idea with the proved code, so comparisons with the library take inputs from it at most.
 //!
 //! The comparisons stand in `tests/`. With the library made by `rt staticlib capi` in the repository's root, run
-//! `cargo test --release --offline` here.
+//! `cargo test --release --offline` here. Each group of C functions is compared once its feature is on: `weights`,
+//! `moves`, `writing`, `trim`, `text`. Tests named `own_` call no C function: there the reference is held against itself.
 
 pub mod coefficients;
 pub mod comparison;

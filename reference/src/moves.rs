@@ -82,11 +82,11 @@ pub fn carry_out(marks: &Marks, step: &Move) -> Marks {
 /// machine word at the largest k.
 pub fn part_of_log(log_len: usize, k: usize) -> Option<usize> {
     let start = MOVE_BYTES as u128 * k as u128;
-    (start + MOVE_BYTES as u128 <= log_len as u128).then(|| start as usize)
+    (start + MOVE_BYTES as u128 <= log_len as u128).then_some(start as usize)
 }
 
-/// Carries out the first moves of a log in order, each on the marks that the one before left. Answers the last marks, or
-/// what is amiss.
+/// Carries out the first moves of a log in order, each on the marks that the one before left. Answers the last marks,
+/// or what is amiss.
 pub fn replay(n: usize, marks: &Marks, log: &[u8], moves: usize) -> Result<Marks, String> {
     let mut marks = *marks;
     for k in 0..moves {

@@ -10,11 +10,11 @@ use crate::reading::Weights;
 const ON_ONE_WIRE: [u8; 4] = [0, 2, 4, 6];
 const ON_TWO_WIRES: [u8; 2] = [0, 6];
 
-/// The weights of these members, 1 each, with the rest that gives the phase of `weights` on every state. None if no rest
-/// does: then the two have different signatures.
+/// The weights of these members, 1 each, with the rest that gives the phase of `weights` on every state. None if no
+/// rest does: then the two have different signatures.
 ///
-/// Pairs come first. What two wires add beyond the two of them alone is told by parities that name both, and among those
-/// that may get a rest only the pair itself does. Then each wire alone settles its own rest.
+/// Pairs come first. What two wires add beyond the two of them alone is told by parities that name both, and among
+/// those that may get a rest only the pair itself does. Then each wire alone settles its own rest.
 pub fn new_weights(n: usize, weights: &Weights, marks: &Marks) -> Option<Weights> {
     let mut table = *marks;
     for (i, j) in pairs(n) {
@@ -43,10 +43,11 @@ pub fn all_new_weights(n: usize, weights: &Weights, marks: &Marks) -> Vec<Weight
     tables
 }
 
-/// Each weight is the mark and an even rest modulo 8: 0 or 6 on a parity of two wires, anything even on one, 0 on others.
+/// Each weight is the mark and an even rest modulo 8: 0 or 6 on a parity of two wires, anything even on one, 0 on
+/// others.
 pub fn has_the_shape(table: &Weights, marks: &Marks) -> bool {
     (0..table.len()).all(|p| {
-        let rest = (8 + table[p] - marks[p]) % 8;
+        let rest = (8 + table[p] % 8 - marks[p]) % 8;
         let wires = (0..8).filter(|wire| p >> wire & 1 == 1).count();
         match wires {
             1 => ON_ONE_WIRE.contains(&rest),

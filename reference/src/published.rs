@@ -1,5 +1,5 @@
-//! The published search for a move, taken literally, as a measure for the others (`src/bin/benchmark.rs`): for each pair
-//! of columns the matrix of all n + n(n-1)(n-2)/6 conditions is set up anew and its whole nullspace computed.
+//! The published search for a move, taken literally, as a measure for the others (`src/bin/benchmark.rs`): for each
+//! pair of columns the matrix of all n + n(n-1)(n-2)/6 conditions is set up anew and its whole nullspace computed.
 
 use crate::coefficients::triples;
 use crate::moves::{members, triple_term, Move};

@@ -79,7 +79,8 @@ fn random_odd_sets_on_many_wires() {
     }
 }
 
-/// Sets that random moves have brought to their end, with a few parities flipped: near the border between none and some.
+/// Sets that random moves have brought to their end, with a few parities flipped: near the border between none and
+/// some.
 #[test]
 fn near_the_end_of_moves() {
     let mut random = Random::new(224);
@@ -103,8 +104,8 @@ fn near_the_end_of_moves() {
     assert!(told[0] > 50 && told[1] > 50, "both answers came up: {told:?}");
 }
 
-/// Sets whose every pair serves one way round only, always with the smaller in Y, or always with the larger: a finder that
-/// tries one way misses the only moves there are.
+/// Sets whose every pair serves one way round only, always with the smaller in Y, or always with the larger: a finder
+/// that tries one way misses the only moves there are.
 #[test]
 fn only_one_of_a_and_b_can_be_in_y() {
     let mut random = Random::new(225);
@@ -143,9 +144,9 @@ fn damaged_moves() {
             for _ in 0..12 {
                 let mut changed = bytes;
                 for _ in 0..random.between(1, 2) {
-                    let place = random.below(random_end(&step));
+                    let place = random.below(damaged_end(&step));
                     let near = changed[place] ^ 1 << random.below(n);
-                    changed[place] = random.one_of(&[near, near, 0, 1, random_byte(bytes, n)]);
+                    changed[place] = random.one_of(&[near, near, 0, 1, mixed_byte(bytes, n)]);
                 }
                 let mut other_marks = marks;
                 if random.below(3) == 0 {
@@ -164,14 +165,14 @@ fn damaged_moves() {
     assert!(accepted > 50 && refusals > 1000, "both came up: {accepted} accepted, {refusals} refused");
 }
 
-/// The bytes that a move fills, and a few of the zeros after.
-fn random_end(step: &Move) -> usize {
+/// How far damage goes: the bytes that a move fills, and a few of the zeros after.
+fn damaged_end(step: &Move) -> usize {
     (step.y.len() + 5).min(40)
 }
 
-/// A byte of the move itself, shifted within n wires.
-fn random_byte(bytes: [u8; 40], n: usize) -> u8 {
-    (u16::from(bytes[0]) + u16::from(bytes[2]) & ((1 << n) - 1)) as u8
+/// A parity of n wires mixed from two bytes of the move.
+fn mixed_byte(bytes: [u8; 40], n: usize) -> u8 {
+    ((u16::from(bytes[0]) + u16::from(bytes[2])) & ((1 << n) - 1)) as u8
 }
 
 /// Each z with the Y of a legal move: only those that split a pair and meet the triples are legal.

@@ -1,4 +1,5 @@
-//! Trims by the library: every part of demand 3, literally, on what it wrote (`comparison::trimming` asks for all of it).
+//! Trims by the library: every part of demand 3, literally, on what it wrote (`comparison::trimming` asks for all of
+//! it).
 
 use sulmedra_reference::comparison::trimming::{trim, trim_into};
 use sulmedra_reference::entries::Reply;
@@ -247,7 +248,7 @@ fn one_more_t() {
     }
 }
 
-/// The log told once more: its moves lead from C's odd set to D's, and each byte after them is as it was.
+/// The log once more, by itself: its moves lead from C's odd set to D's.
 #[test]
 fn the_log_leads_to_the_last_odd_set() {
     let mut random = Random::new(276);

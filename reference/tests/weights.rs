@@ -4,7 +4,7 @@ use sulmedra_reference::comparison::weights::{coefficients, new_weights, odd_set
 use sulmedra_reference::entries::Reply;
 use sulmedra_reference::moves::carry_out;
 use sulmedra_reference::new_weights::all_new_weights;
-use sulmedra_reference::odd_set::{self as reference, size, Marks};
+use sulmedra_reference::odd_set::{self as reference, Marks};
 use sulmedra_reference::random::{add_even_weights, legal_move, weights, Random};
 use sulmedra_reference::reading::Weights;
 
@@ -169,7 +169,6 @@ fn marks_against_their_rule_are_refused() {
     for n in 1..=8 {
         let from = weights(&mut random, n);
         let sound: Marks = reference::odd_set(&from);
-        assert!(size(&sound) < 256);
         for p in 0..256 {
             let inside = p != 0 && p < 1 << n;
             for mark in [1, 2, 3, 255] {

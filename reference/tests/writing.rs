@@ -71,8 +71,8 @@ fn random_weights_and_rows() {
 }
 
 /// Weights that take two gates on every parity, and rows that take many CNOTs: the longest lists are within the limit.
-/// The first rows name all wires but the first, then all but the last: brought about column by column, they take all but
-/// one of n². From there the search goes on wherever lists get no shorter.
+/// The first rows name all wires but the first, then all but the last: brought about column by column, they take all
+/// but one of n². From there the search goes on wherever lists get no shorter.
 #[test]
 fn the_longest_lists() {
     let mut random = Random::new(244);

@@ -1,7 +1,6 @@
 //! One call of an entry on weights, held against the reference.
 
-use crate::coefficients::signature;
-use crate::coefficients::{self, Coefficients, C_BYTES, L_BYTES, Q_BYTES};
+use crate::coefficients::{self, signature, Coefficients, C_BYTES, L_BYTES, Q_BYTES};
 use crate::entries::weights as entries;
 use crate::entries::Reply;
 use crate::faults;
@@ -9,7 +8,7 @@ use crate::lent::Lent;
 use crate::new_weights::{self, has_the_shape, same_phases};
 use crate::odd_set::{self, Marks};
 use crate::random::Random;
-use crate::reading::{Weights, WEIGHTS_BYTES};
+use crate::reading::Weights;
 
 /// The odd set by the entry, into marks of the given length.
 pub fn odd_set(n: usize, weights: &[u8], marks_len: usize, random: &mut Random) -> Result<Marks, Reply> {
@@ -68,8 +67,8 @@ pub fn coefficients(
 /// The right lengths of l, q and c.
 pub const RIGHT_LENGTHS: (usize, usize, usize) = (L_BYTES, Q_BYTES, C_BYTES);
 
-/// The new weights by the entry, into an output of the given length. Where the signatures differ, the paper says nothing
-/// of what is written.
+/// The new weights by the entry, into an output of the given length. Where the signatures differ, the paper says
+/// nothing of what is written.
 pub fn new_weights(
     n: usize,
     weights: &[u8],
@@ -95,7 +94,6 @@ pub fn new_weights(
     let weights: &Weights = weights.try_into().expect("accepted weights are 256");
     let marks: &Marks = marks.try_into().expect("accepted marks are 256");
     if signature(n, weights) == signature(n, marks) {
-        assert_eq!(written.len(), WEIGHTS_BYTES);
         assert!(has_the_shape(&written, marks), "shape for n = {n}, {weights:?}, {marks:?}: {written:?}");
         assert_eq!(odd_set::odd_set(&written), *marks, "odd set for n = {n}, {weights:?}");
         assert!(same_phases(n, &written, weights), "phases for n = {n}, {weights:?}, {marks:?}: {written:?}");
