@@ -5,3 +5,4 @@ pub mod Log
 pub mod Replay
 pub mod Product
 pub mod Kappa
+pub mod Pair
