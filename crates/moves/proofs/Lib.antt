@@ -12,3 +12,5 @@ pub mod Spell
 pub mod Finder
 pub mod Wires
 pub mod Log
+pub mod Replay
+pub mod Decide

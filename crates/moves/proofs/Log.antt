@@ -9,7 +9,7 @@ use lib.Seq.{drop-at, ext-getD, getD-append-add, getD-drop, length-take-le, take
 use borrow.Author.Tests.{le-leb, lt-leb}
 use Rattle.circuit.specs.Entry.{after}
 use Rattle.gf2.proofs.Combination.{getD-zeros}
-use Rattle.moves.specs.Log.{asBytes, logged, moveAt}
+use Rattle.moves.specs.Log.{asBytes, logged, moveAt, setOf, zOf}
 
 -- ---- the bytes of a move
 
@@ -37,13 +37,6 @@ module _ (most z : ℕ) (Y : List ℕ) where
       let j : ℕ = i - (length Y + 2) in
       let e : i ≡ suc (suc (length Y + j)) = omega arith in
       rw e (getD-append-add Y (replicate (most - length Y) 0) j 0 ∙ getD-zeros (most - length Y) j)
-
--- the number and the set that bytes say
-abbrev pub zOf : List ℕ → ℕ
-zOf bytes = getD bytes 0 0
-
-abbrev pub setOf : List ℕ → List ℕ
-setOf bytes = take (getD bytes 1 0) (drop 2 bytes)
 
 -- the bytes of a move say that move
 pub bytes-say : (most z : ℕ) (Y bytes : List ℕ) → bytes ≡ asBytes most z Y → (zOf bytes ≡ z) × (setOf bytes ≡ Y)
