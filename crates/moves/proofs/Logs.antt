@@ -1,15 +1,16 @@
 -- The bytes of a move say which move it is; and what a log keeps when more is written to it.
 use mathlib.Core.List.{List, [], _++_, _∷_, append-assoc}
+use mathlib.Core.Logic.{_↔_}
 use mathlib.Core.Path.{_∙_, _≡_, ap, ap₂, refl, sym}
 use Prim.Native.Nat.{_*_, _+_, _-_, _<_, _≤_, suc, zero, ℕ}
 use native.Mathlib.Decide.{decLt}
 use native.Mathlib.Omega.{arith}
-use lib.ListN.{drop, getD, length, length-append, length-drop, length-replicate, replicate, take, take-append-drop}
-use lib.Seq.{drop-at, ext-getD, getD-append-add, getD-drop, length-take-le, take-add, take-append-seam, take-at, take-take}
+use lib.ListN.{drop, getD, length, length-append, length-drop, length-replicate, replicate, set, take, take-append-drop}
+use lib.Seq.{drop-at, ext-getD, getD-append-add, getD-drop, length-take-le, set-append-seam, take-add, take-append-seam, take-at, take-take}
 use borrow.Author.Tests.{le-leb, lt-leb}
-use Rattle.circuit.specs.Entry.{after}
 use Rattle.gf2.proofs.Combination.{getD-zeros}
-use Rattle.moves.specs.Log.{asBytes, logged, moveAt, setOf, zOf}
+use Rattle.moves.specs.Log.{LegalBytes, asBytes, logged, moveAt, setOf, zOf}
+use Rattle.moves.specs.Move.{Legal}
 
 -- ---- the bytes of a move
 
@@ -37,6 +38,22 @@ module _ (most z : ℕ) (Y : List ℕ) where
       let j : ℕ = i - (length Y + 2) in
       let e : i ≡ suc (suc (length Y + j)) = omega arith in
       rw e (getD-append-add Y (replicate (most - length Y) 0) j 0 ∙ getD-zeros (most - length Y) j)
+
+-- for code that writes them: no Y yet, and one number more
+pub bytes-none : (most z : ℕ) → asBytes most z [] ≡ z ∷ 0 ∷ replicate most 0
+unfolding asBytes
+bytes-none most z = let e : most - 0 ≡ most = omega arith in rw e
+
+pub bytes-more : (most z : ℕ) (Y : List ℕ) (y : ℕ) → length Y < most
+    → set (set (asBytes most z Y) (length Y + 2) y) 1 (length Y + 1) ≡ asBytes most z (Y ++ (y ∷ []))
+unfolding asBytes
+bytes-more most z Y y h =
+    let d : ℕ = most - suc (length Y) in
+    let e : most - length Y ≡ suc d = omega arith in
+    let place : length Y + 2 ≡ suc (suc (length Y)) = omega arith in
+    let more : length (Y ++ (y ∷ [])) ≡ length Y + 1 = length-append Y (y ∷ []) in
+    let left : most - (length Y + 1) ≡ d = omega arith in
+    rw (e, place, more, left, set-append-seam Y 0 (replicate d 0) y, append-assoc Y (y ∷ []) (replicate d 0))
 
 -- the bytes of a move say that move
 pub bytes-say : (most z : ℕ) (Y bytes : List ℕ) → bytes ≡ asBytes most z Y → (zOf bytes ≡ z) × (setOf bytes ≡ Y)
@@ -66,17 +83,37 @@ said-bytes most (z ∷ c ∷ rest) len few zeroes =
         ext-getD 0 (drop c rest) (replicate (most - c) 0) (omega (arith, length-drop c rest, length-replicate {A = ℕ} (most - c) 0))
         (λ i l. getD-drop c rest i 0 ∙ zeroes (suc (suc (c + i))) (omega arith) (omega (arith, length-drop c rest)) ∙ sym (getD-zeros (most - c) i))
 
+-- what code can look at, one after another, where bytes are to be a legal move
+pub record Checked (most n : ℕ) (marks bytes : List ℕ) : Type 0 where
+  pub long : length bytes ≡ most + 2
+  pub count : getD bytes 1 0 ≤ most
+  pub zeroes : (i : ℕ) → getD bytes 1 0 + 2 ≤ i → i < most + 2 → getD bytes i 0 ≡ 0
+  pub legal : Legal most n marks (zOf bytes) (setOf bytes)
+
+pub bytes-checked : (most n : ℕ) (marks bytes : List ℕ) → LegalBytes most n marks bytes ↔ Checked most n marks bytes
+bytes-checked most n marks bytes = (
+  λ f. let s = bytes-say most (f .z) (f .Y) bytes (f .is) in
+      let c : getD bytes 1 0 ≡ length (f .Y) = ap (λ (b : List ℕ). getD b 1 0) (f .is) ∙ bytes-count most (f .z) (f .Y) in
+      record {
+        long = ap length (f .is) ∙ bytes-length most (f .z) (f .Y) (f .legal .few);
+        count = omega (arith, f .legal .few);
+        zeroes = λ i l h. ap (λ (b : List ℕ). getD b i 0) (f .is) ∙ bytes-rest most (f .z) (f .Y) i (omega arith);
+        legal = rw (s .0, s .1) (f .legal);
+      },
+  λ h. record { z = zOf bytes; Y = setOf bytes; is = said-bytes most bytes (h .long) (h .count) (h .zeroes); legal = h .legal },
+)
+
 -- ---- a log
 
 module _ (size : ℕ) (log : List ℕ) (k : ℕ) where
-  pub move-whole : size * k + size ≤ length log → moveAt size log k ≡ take size (drop (size * k) log)
-  unfolding moveAt
-  move-whole h = simp (le-leb (size * k + size) (length log) h)
-
   -- empty if the log has fewer bytes
   pub move-short : length log < size * k + size → moveAt size log k ≡ []
   unfolding moveAt
   move-short h = simp (lt-leb (size * k + size) (length log) h)
+
+  pub move-whole : size * k + size ≤ length log → moveAt size log k ≡ take size (drop (size * k) log)
+  unfolding moveAt
+  move-whole h = simp (le-leb (size * k + size) (length log) h)
 
 -- a part of a list is the end of a front of it
 part : (j size : ℕ) (log : List ℕ) → j ≤ length log → take size (drop j log) ≡ drop j (take (j + size) log)
