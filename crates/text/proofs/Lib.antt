@@ -1,1 +1,3 @@
 pub mod HexDigits
+pub mod LineForms
+pub mod TextFaults

@@ -36,6 +36,11 @@ abbrev pub formed : ℕ → Line → Bool
 formed k (ended bs) = areDigits k bs
 formed k (unended bs) = false
 
+-- the first line has that form; where there is no line, none has
+abbrev pub firstFormed : ℕ → List Line → Bool
+firstFormed k [] = false
+firstFormed k (l ∷ ls) = formed k l
+
 -- the byte that two digits spell
 abbrev pub pair : ℕ → ℕ → ℕ
 pair a b = 16 * valueOf a + valueOf b

@@ -4,6 +4,7 @@ ghost use mathlib.Core.Path.{_≡_};
 
 pub mod hex;
 pub mod limits;
+pub mod reading;
 
 // The wire count and the number of gates, or document 01's number and place of the fault.
 pub enum TextReply {

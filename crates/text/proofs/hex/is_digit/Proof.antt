@@ -2,7 +2,6 @@
 use mathlib.Core.Path.{sym}
 use native.Mathlib.Omega.{arith}
 use Rattle.text.proofs.HexDigits.{above, below, between, decimal, letter}
-use Rattle.text.specs.Hex.{digit}
 use Rattle.text.proofs.hex.is_digit.Statement.{statement}
 use Rattle.text.proofs.hex.is_digit.Tie as tie
 

@@ -1,0 +1,103 @@
+-- The faults of a text by cases: one turn, and each way out, of the loop over the gate lines, and of line one.
+use mathlib.Core.Bool.{Bool, cond, false, true}
+use mathlib.Core.List.{List, [], _∷_}
+use mathlib.Core.Logic.{_≢_}
+use mathlib.Core.Path.{_∙_, _≡_, ap, refl, sym}
+use Prim.Native.Nat.{_+_, _<_, _≤_, suc, ℕ}
+use native.Mathlib.Numerals.{add-one}
+use native.Mathlib.Omega.{arith}
+use lib.ListN.{drop, drop-of-length-le, getD, length, take}
+use borrow.Author.Tests.{le-ltb, lt-ltb}
+use Rattle.circuit.proofs.Judging.{refused}
+use Rattle.circuit.specs.Faults.{listLength, refuse, wiresFault}
+use Rattle.circuit.specs.Limits.{maxGates}
+use Rattle.circuit.specs.declared.Reply.{Reply}
+use Rattle.circuit.specs.declared.Reply.the-variants.{Done, Refused}
+use Rattle.text.proofs.LineForms.{formed-lines, formed-long, some-line}
+use Rattle.text.specs.Limits.{gateDigits, gateLineBytes, wiresDigits, wiresLineBytes}
+use Rattle.text.specs.Lines.{Line, ended, firstFormed, formed, linesOf, pair, spelled}
+use Rattle.text.specs.Text.{gatesFault, linesFault, malformed, wireCount}
+
+-- ---- by lines
+
+module _ (i : ℕ) (l : Line) (ls : List Line) where
+  pub many : maxGates ≤ i → gatesFault i (l ∷ ls) ≡ Refused listLength 0
+  unfolding gatesFault
+  many h = simp (le-ltb i maxGates h)
+
+  module _ (few : i < maxGates) where
+    pub wrong : formed gateDigits l ≡ false → gatesFault i (l ∷ ls) ≡ Refused malformed (i + 2)
+    unfolding gatesFault
+    wrong e = simp (lt-ltb i maxGates few, e)
+
+    pub right : formed gateDigits l ≡ true → gatesFault i (l ∷ ls) ≡ gatesFault (suc i) ls
+    unfolding gatesFault
+    right e = simp (lt-ltb i maxGates few, e)
+
+-- ---- at a place of the text
+
+-- the first fault of the gate lines from place `at` on, where gate line i starts
+abbrev pub faultFrom : List ℕ → ℕ → ℕ → Reply
+faultFrom t at i = gatesFault i (linesOf (drop at t))
+
+module _ (t : List ℕ) (at i : ℕ) where
+  pub no-more : length t ≤ at → faultFrom t at i ≡ Done
+  unfolding gatesFault linesOf
+  no-more h = rw (drop-of-length-le t h)
+
+  pub one-too-many : at < length t → maxGates ≤ i → faultFrom t at i ≡ Refused listLength 0
+  one-too-many h k =
+      let s = some-line t at h in
+      rw (s .2) (many i (s .0) (s .1) k)
+
+  pub gate-wrong : at < length t → i < maxGates → firstFormed gateDigits (linesOf (drop at t)) ≡ false → faultFrom t at i ≡ Refused malformed (i + 2)
+  gate-wrong h k e =
+      let s = some-line t at h in
+      rw (s .2) (wrong i (s .0) (s .1) k (rw (s .2) at e))
+
+  pub gate-right : i < maxGates → firstFormed gateDigits (linesOf (drop at t)) ≡ true → faultFrom t (at + gateLineBytes) (i + 1) ≡ faultFrom t at i
+  gate-right k e =
+      let s = formed-lines t at gateDigits e in
+      sym (rw (s, add-one i) (right i (ended (take gateDigits (drop at t))) (linesOf (drop (at + gateLineBytes) t)) k (rw s at e)))
+
+-- ---- line one
+
+pub one-wrong : (t : List ℕ) → firstFormed wiresDigits (linesOf t) ≡ false → linesFault (linesOf t) ≡ Refused malformed 1
+one-wrong t = go (linesOf t)
+  where
+    go : (ls : List Line) → firstFormed wiresDigits ls ≡ false → linesFault ls ≡ Refused malformed 1
+    go [] e = refl
+    go (l ∷ ls) e = rw e
+
+-- the byte that the digits of line one spell
+abbrev pub firstByte : List ℕ → ℕ
+firstByte t = pair (getD t 0 0) (getD t 1 0)
+
+two : (t : List ℕ) → wiresDigits < length t → wireCount (ended (take wiresDigits t)) ≡ firstByte t
+unfolding spelled
+two [] h = absurd (omega arith)
+two (a ∷ []) h = absurd (omega arith)
+two (a ∷ b ∷ t) h = refl
+
+module _ (t : List ℕ) (e : firstFormed wiresDigits (linesOf t) ≡ true) where
+  pub one-long : wiresDigits < length t
+  one-long = formed-long t 0 wiresDigits e
+
+  pub one-right : linesOf t ≡ ended (take wiresDigits t) ∷ linesOf (drop wiresLineBytes t)
+  one-right = formed-lines t 0 wiresDigits e
+
+  one-formed : formed wiresDigits (ended (take wiresDigits t)) ≡ true
+  one-formed = rw one-right at e
+
+  by-count : linesFault (linesOf t) ≡ refuse (wiresFault (firstByte t)) 0 (faultFrom t wiresLineBytes 0)
+  by-count = rw (one-right, one-formed, two t one-long)
+
+  module _ (f v : ℕ) (judged : f ≡ wiresFault v) (is : v ≡ firstByte t) where
+    by-fault : linesFault (linesOf t) ≡ refuse f 0 (faultFrom t wiresLineBytes 0)
+    by-fault = by-count ∙ ap (λ (x : ℕ). refuse x 0 (faultFrom t wiresLineBytes 0)) (sym (judged ∙ ap wiresFault is))
+
+    pub count-refused : f ≢ 0 → Refused f 0 ≡ linesFault (linesOf t)
+    count-refused h = sym (by-fault ∙ refused f 0 (faultFrom t wiresLineBytes 0) h)
+
+    pub count-passed : f ≡ 0 → faultFrom t wiresLineBytes 0 ≡ linesFault (linesOf t)
+    count-passed h = sym (by-fault ∙ rw h)

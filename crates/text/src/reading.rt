@@ -1,0 +1,96 @@
+// A text judged line by line, and its gates stored (document 01, "Text form").
+ghost use mathlib.Core.Path.{_≡_};
+ghost use Prim.Native.Nat.{_+_, _*_, _<_, _≤_};
+ghost use lib.ListN.{drop, getD, length};
+ghost use Rattle.circuit.specs.Limits.{gateBytes, maxListBytes};
+ghost use Rattle.circuit.specs.declared.Reply.the-variants.{Done};
+ghost use Rattle.text.specs.Limits.{wiresLineBytes};
+ghost use Rattle.text.specs.Lines.{firstFormed, linesOf, linesSpell, pair};
+ghost use Rattle.text.specs.Placed.{placed};
+ghost use Rattle.text.specs.Text.{gatesFault, linesFault};
+use circuit::Reply;
+use circuit::faults::LIST_LENGTH;
+use circuit::faults::wires_fault;
+use circuit::limits::GATE_BYTES;
+use circuit::limits::MAX_GATES;
+use crate::hex::NEWLINE;
+use crate::hex::is_digit;
+use crate::hex::value_of;
+use crate::limits::GATE_DIGITS;
+use crate::limits::GATE_LINE_BYTES;
+use crate::limits::WIRES_DIGITS;
+use crate::limits::WIRES_LINE_BYTES;
+
+pub const MALFORMED: u8 = 9;
+
+// The first fault of a text: of line one its form, then the count; then the gate lines.
+pub fn text_fault(text: &[u8]) -> Reply
+    ensures { λ r. ⌜ r ≡ linesFault (linesOf (now (text .entry))) ⌝ }
+{
+    if !line_formed(text, 0, WIRES_DIGITS) {
+        return Reply::Refused {
+            number: MALFORMED,
+            place: 1,
+        };
+    }
+    let fault = wires_fault(byte_at(text, 0) as usize);
+    if fault != 0 {
+        return Reply::Refused {
+            number: fault,
+            place: 0,
+        };
+    }
+    gates_fault(text)
+}
+
+// The gate lines in order. Gate line i, counted from 0, is line i + 2 of the text.
+fn gates_fault(text: &[u8]) -> Reply
+    requires { ⌜ wiresLineBytes ≤ length (now text) ⌝ }
+    ensures { λ r. ⌜ r ≡ gatesFault 0 (linesOf (drop wiresLineBytes (now (text .entry)))) ⌝ }
+{
+    let mut i: usize = 0;
+    let mut at = WIRES_LINE_BYTES;
+    while at < text.len() {
+        if i == MAX_GATES {
+            return Reply::Refused {
+                number: LIST_LENGTH,
+                place: 0,
+            };
+        }
+        if !line_formed(text, at, GATE_DIGITS) {
+            return Reply::Refused {
+                number: MALFORMED,
+                place: i + 2,
+            };
+        }
+        at += GATE_LINE_BYTES;
+        i += 1;
+    }
+    Reply::Done
+}
+
+// Whether the line from `at` on is that many digits and a newline.
+fn line_formed(text: &[u8], at: usize, digits: usize) -> bool
+    requires { ⌜ at ≤ length (now text) ⌝ }
+    ensures { λ r. ⌜ r ≡ firstFormed digits (linesOf (drop at (now (text .entry)))) ⌝ }
+{
+    if text.len() - at <= digits {
+        return false;
+    }
+    let mut j: usize = 0;
+    while j < digits {
+        if !is_digit(text[at + j]) {
+            return false;
+        }
+        j += 1;
+    }
+    text[at + digits] == NEWLINE
+}
+
+// The byte that the two digits from `at` on spell.
+pub fn byte_at(text: &[u8], at: usize) -> u8
+    requires { ⌜ at + 1 < length (now text) ⌝ }
+    ensures { λ r. ⌜ r ≡ pair (getD (now (text .entry)) at 0) (getD (now (text .entry)) (at + 1) 0) ⌝ }
+{
+    16 * value_of(text[at]) + value_of(text[at + 1])
+}
