@@ -1,3 +1,4 @@
 pub mod HexDigits
 pub mod LineForms
 pub mod TextFaults
+pub mod Storing

@@ -4,9 +4,10 @@ use mathlib.Core.List.{List, [], _∷_}
 use mathlib.Core.Logic.{_≢_}
 use mathlib.Core.Path.{_∙_, _≡_, ap, refl, sym}
 use Prim.Native.Nat.{_+_, _<_, _≤_, suc, ℕ}
+use native.Mathlib.Decide.{decLt}
 use native.Mathlib.Numerals.{add-one}
 use native.Mathlib.Omega.{arith}
-use lib.ListN.{drop, drop-of-length-le, getD, length, take}
+use lib.ListN.{drop, drop-of-length-le, length, take}
 use borrow.Author.Tests.{le-ltb, lt-ltb}
 use Rattle.circuit.proofs.Judging.{refused}
 use Rattle.circuit.specs.Faults.{listLength, refuse, wiresFault}
@@ -15,7 +16,7 @@ use Rattle.circuit.specs.declared.Reply.{Reply}
 use Rattle.circuit.specs.declared.Reply.the-variants.{Done, Refused}
 use Rattle.text.proofs.LineForms.{formed-lines, formed-long, some-line}
 use Rattle.text.specs.Limits.{gateDigits, gateLineBytes, wiresDigits, wiresLineBytes}
-use Rattle.text.specs.Lines.{Line, ended, firstFormed, formed, linesOf, pair, spelled}
+use Rattle.text.specs.Lines.{Line, ended, firstFormed, formed, byteAt, linesOf, spelled}
 use Rattle.text.specs.Text.{gatesFault, linesFault, malformed, wireCount}
 
 -- ---- by lines
@@ -69,11 +70,7 @@ one-wrong t = go (linesOf t)
     go [] e = refl
     go (l ∷ ls) e = rw e
 
--- the byte that the digits of line one spell
-abbrev pub firstByte : List ℕ → ℕ
-firstByte t = pair (getD t 0 0) (getD t 1 0)
-
-two : (t : List ℕ) → wiresDigits < length t → wireCount (ended (take wiresDigits t)) ≡ firstByte t
+two : (t : List ℕ) → wiresDigits < length t → wireCount (ended (take wiresDigits t)) ≡ byteAt t 0
 unfolding spelled
 two [] h = absurd (omega arith)
 two (a ∷ []) h = absurd (omega arith)
@@ -89,10 +86,10 @@ module _ (t : List ℕ) (e : firstFormed wiresDigits (linesOf t) ≡ true) where
   one-formed : formed wiresDigits (ended (take wiresDigits t)) ≡ true
   one-formed = rw one-right at e
 
-  by-count : linesFault (linesOf t) ≡ refuse (wiresFault (firstByte t)) 0 (faultFrom t wiresLineBytes 0)
+  by-count : linesFault (linesOf t) ≡ refuse (wiresFault (byteAt t 0)) 0 (faultFrom t wiresLineBytes 0)
   by-count = rw (one-right, one-formed, two t one-long)
 
-  module _ (f v : ℕ) (judged : f ≡ wiresFault v) (is : v ≡ firstByte t) where
+  module _ (f v : ℕ) (judged : f ≡ wiresFault v) (is : v ≡ byteAt t 0) where
     by-fault : linesFault (linesOf t) ≡ refuse f 0 (faultFrom t wiresLineBytes 0)
     by-fault = by-count ∙ ap (λ (x : ℕ). refuse x 0 (faultFrom t wiresLineBytes 0)) (sym (judged ∙ ap wiresFault is))
 
@@ -101,3 +98,26 @@ module _ (t : List ℕ) (e : firstFormed wiresDigits (linesOf t) ≡ true) where
 
     pub count-passed : f ≡ 0 → faultFrom t wiresLineBytes 0 ≡ linesFault (linesOf t)
     count-passed h = sym (by-fault ∙ rw h)
+
+-- ---- no fault: what the loop that stores leans on
+
+not-done : (number place : ℕ) → Refused number place ≡ Done → ⊥
+not-done number place e = let z : _≡_ {A = ℕ} 0 1 = cc in omega arith
+
+module _ (t : List ℕ) (at i : ℕ) (inside : at < length t) (done : faultFrom t at i ≡ Done) where
+  pub done-few : i < maxGates
+  done-few = go (decLt i maxGates)
+    where
+      go : Dec (i < maxGates) → i < maxGates
+      go (yes h) = h
+      go (no h) = absurd (not-done listLength 0 (sym (one-too-many t at i inside (omega arith)) ∙ done))
+
+  pub done-formed : firstFormed gateDigits (linesOf (drop at t)) ≡ true
+  done-formed = go (firstFormed gateDigits (linesOf (drop at t))) refl
+    where
+      go : (b : Bool) → firstFormed gateDigits (linesOf (drop at t)) ≡ b → b ≡ true
+      go true e = refl
+      go false e = absurd (not-done malformed (i + 2) (sym (gate-wrong t at i inside done-few e) ∙ done))
+
+  pub done-next : faultFrom t (at + gateLineBytes) (i + 1) ≡ Done
+  done-next = gate-right t at i done-few done-formed ∙ done

@@ -4,6 +4,7 @@ use mathlib.Core.Bool.{Bool, _&&_, cond, false, true}
 use mathlib.Core.List.{List, [], _∷_, _++_}
 use Prim.Native.Nat.{_*_, _+_, suc, zero, ℕ}
 use lib.Dec.{eqb}
+use lib.ListN.{getD}
 use Rattle.text.specs.Hex.{isDigit, newline, valueOf}
 
 -- the bytes of a line before its newline, or of one that lacks it
@@ -44,6 +45,14 @@ firstFormed k (l ∷ ls) = formed k l
 -- the byte that two digits spell
 abbrev pub pair : ℕ → ℕ → ℕ
 pair a b = 16 * valueOf a + valueOf b
+
+-- the byte that the digits at places p and p + 1 spell
+abbrev pub byteAt : List ℕ → ℕ → ℕ
+byteAt t p = pair (getD t p 0) (getD t (p + 1) 0)
+
+-- the three bytes of the gate whose digits start at place p
+abbrev pub gateSpelledAt : List ℕ → ℕ → List ℕ
+gateSpelledAt t p = byteAt t p ∷ byteAt t (p + 2) ∷ byteAt t (p + 4) ∷ []
 
 -- the bytes that digits spell, two digits each
 unfoldable pub spelled : List ℕ → List ℕ

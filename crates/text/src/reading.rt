@@ -1,12 +1,13 @@
 // A text judged line by line, and its gates stored (document 01, "Text form").
 ghost use mathlib.Core.Path.{_≡_};
-ghost use Prim.Native.Nat.{_+_, _*_, _<_, _≤_};
-ghost use lib.ListN.{drop, getD, length};
+ghost use Prim.Native.Nat.{_+_, _<_, _≤_};
+ghost use lib.ListN.{drop, length};
+ghost use lib.Seq.{sets};
 ghost use Rattle.circuit.specs.Limits.{gateBytes, maxListBytes};
 ghost use Rattle.circuit.specs.declared.Reply.the-variants.{Done};
-ghost use Rattle.text.specs.Limits.{wiresLineBytes};
-ghost use Rattle.text.specs.Lines.{firstFormed, linesOf, linesSpell, pair};
-ghost use Rattle.text.specs.Placed.{placed};
+ghost use Rattle.text.specs.Limits.{gateDigits, wiresLineBytes};
+ghost use Rattle.text.specs.Lines.{byteAt, firstFormed, gateSpelledAt, linesOf, linesSpell};
+ghost use Rattle.text.specs.Placed.{Stores};
 ghost use Rattle.text.specs.Text.{gatesFault, linesFault};
 use circuit::Reply;
 use circuit::faults::LIST_LENGTH;
@@ -87,10 +88,35 @@ fn line_formed(text: &[u8], at: usize, digits: usize) -> bool
     text[at + digits] == NEWLINE
 }
 
+// Stores the gates of a text without a fault from the start of what is lent, and gives their number.
+pub fn store_gates(text: &[u8], gates: &mut [u8]) -> usize
+    requires { ⌜ (maxListBytes ≤ length (now gates)) × (gatesFault 0 (linesOf (drop wiresLineBytes (now text))) ≡ Done) ⌝ }
+    ensures { λ r. ⌜ Stores (now (gates .entry)) (linesSpell (linesOf (drop wiresLineBytes (now (text .entry))))) (now (gates .exit)) r ⌝ }
+{
+    let mut i: usize = 0;
+    let mut at = WIRES_LINE_BYTES;
+    while at < text.len() {
+        store_gate(text, at, gates, GATE_BYTES * i);
+        at += GATE_LINE_BYTES;
+        i += 1;
+    }
+    i
+}
+
+// The gate whose line starts at `at`.
+fn store_gate(text: &[u8], at: usize, gates: &mut [u8], j: usize)
+    requires { ⌜ (at + gateDigits < length (now text)) × (j + gateBytes ≤ length (now gates)) ⌝ }
+    ensures { λ _. ⌜ now (gates .exit) ≡ sets (now (gates .entry)) j (gateSpelledAt (now (text .entry)) at) ⌝ }
+{
+    gates[j] = byte_at(text, at);
+    gates[j + 1] = byte_at(text, at + 2);
+    gates[j + 2] = byte_at(text, at + 4);
+}
+
 // The byte that the two digits from `at` on spell.
 pub fn byte_at(text: &[u8], at: usize) -> u8
     requires { ⌜ at + 1 < length (now text) ⌝ }
-    ensures { λ r. ⌜ r ≡ pair (getD (now (text .entry)) at 0) (getD (now (text .entry)) (at + 1) 0) ⌝ }
+    ensures { λ r. ⌜ r ≡ byteAt (now (text .entry)) at ⌝ }
 {
     16 * value_of(text[at]) + value_of(text[at + 1])
 }
