@@ -2,3 +2,4 @@ pub mod HexDigits
 pub mod LineForms
 pub mod TextFaults
 pub mod Storing
+pub mod TextWays

@@ -9,15 +9,15 @@ use native.Mathlib.Numerals.{add-one}
 use native.Mathlib.Omega.{arith}
 use lib.ListN.{drop, drop-of-length-le, length, take}
 use borrow.Author.Tests.{le-ltb, lt-ltb}
-use Rattle.circuit.proofs.Judging.{refused}
+use Rattle.circuit.proofs.Judging.{refuse-done, refused}
 use Rattle.circuit.specs.Faults.{listLength, refuse, wiresFault}
 use Rattle.circuit.specs.Limits.{maxGates}
 use Rattle.circuit.specs.declared.Reply.{Reply}
 use Rattle.circuit.specs.declared.Reply.the-variants.{Done, Refused}
 use Rattle.text.proofs.LineForms.{formed-lines, formed-long, some-line}
 use Rattle.text.specs.Limits.{gateDigits, gateLineBytes, wiresDigits, wiresLineBytes}
-use Rattle.text.specs.Lines.{Line, ended, firstFormed, formed, byteAt, linesOf, spelled}
-use Rattle.text.specs.Text.{gatesFault, linesFault, malformed, wireCount}
+use Rattle.text.specs.Lines.{Line, ended, firstFormed, formed, byteAt, linesOf, linesSpell, spelled}
+use Rattle.text.specs.Text.{circuit, faulty, gatesFault, linesFault, malformed, readText, wireCount}
 
 -- ---- by lines
 
@@ -121,3 +121,30 @@ module _ (t : List ℕ) (at i : ℕ) (inside : at < length t) (done : faultFrom 
 
   pub done-next : faultFrom t (at + gateLineBytes) (i + 1) ≡ Done
   done-next = gate-right t at i done-few done-formed ∙ done
+
+-- ---- no fault: what the text is
+
+module _ (t : List ℕ) (done : linesFault (linesOf t) ≡ Done) where
+  pub one-formed-done : firstFormed wiresDigits (linesOf t) ≡ true
+  one-formed-done = go (firstFormed wiresDigits (linesOf t)) refl
+    where
+      go : (b : Bool) → firstFormed wiresDigits (linesOf t) ≡ b → b ≡ true
+      go true e = refl
+      go false e = absurd (not-done malformed 1 (sym (one-wrong t e) ∙ done))
+
+  judged-done : (wiresFault (byteAt t 0) ≡ 0) × (faultFrom t wiresLineBytes 0 ≡ Done)
+  judged-done = refuse-done (wiresFault (byteAt t 0)) 0 (faultFrom t wiresLineBytes 0) (sym (by-count t one-formed-done) ∙ done)
+
+  pub count-done : wiresFault (byteAt t 0) ≡ 0
+  count-done = judged-done .0
+
+  pub gates-done : faultFrom t wiresLineBytes 0 ≡ Done
+  gates-done = judged-done .1
+
+  pub read-circuit : readText t ≡ circuit (byteAt t 0) (linesSpell (linesOf (drop wiresLineBytes t)))
+  unfolding readText
+  read-circuit = rw (done, one-right t one-formed-done, two t (one-long t one-formed-done))
+
+pub read-faulty : (t : List ℕ) (number place : ℕ) → linesFault (linesOf t) ≡ Refused number place → readText t ≡ faulty number place
+unfolding readText
+read-faulty t number place e = rw e
