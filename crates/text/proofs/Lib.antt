@@ -3,3 +3,4 @@ pub mod LineForms
 pub mod TextFaults
 pub mod Storing
 pub mod TextWays
+pub mod Deciding

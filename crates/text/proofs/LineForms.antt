@@ -15,7 +15,7 @@ use Rattle.text.specs.Hex.{isDigit, newline}
 use Rattle.text.specs.Lines.{Line, areDigits, ended, firstFormed, formed, inFront, linesOf, longer, unended}
 
 -- k digits, then a newline
-pub starts : ℕ → List ℕ → Bool
+unfoldable pub starts : ℕ → List ℕ → Bool
 starts k [] = false
 starts zero (b ∷ bs) = eqb b newline
 starts (suc k) (b ∷ bs) = isDigit b && starts k bs

@@ -86,7 +86,7 @@ module _ (t : List ℕ) (e : firstFormed wiresDigits (linesOf t) ≡ true) where
   one-formed : formed wiresDigits (ended (take wiresDigits t)) ≡ true
   one-formed = rw one-right at e
 
-  by-count : linesFault (linesOf t) ≡ refuse (wiresFault (byteAt t 0)) 0 (faultFrom t wiresLineBytes 0)
+  pub by-count : linesFault (linesOf t) ≡ refuse (wiresFault (byteAt t 0)) 0 (faultFrom t wiresLineBytes 0)
   by-count = rw (one-right, one-formed, two t one-long)
 
   module _ (f v : ℕ) (judged : f ≡ wiresFault v) (is : v ≡ byteAt t 0) where
