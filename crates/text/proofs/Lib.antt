@@ -4,3 +4,4 @@ pub mod TextFaults
 pub mod Storing
 pub mod TextWays
 pub mod Deciding
+pub mod Writing

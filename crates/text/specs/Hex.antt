@@ -33,9 +33,9 @@ unfoldable pub digit : ℕ → ℕ
 digit v = either (ltb v 10) (48 + v) (87 + v)
 
 -- the last two digits of a number
-unfoldable pub hex2 : ℕ → List ℕ
+abbrev pub hex2 : ℕ → List ℕ
 hex2 v = digit (v / 16 % 16) ∷ digit (v % 16) ∷ []
 
 -- the last four digits of a number
-unfoldable pub hex4 : ℕ → List ℕ
+abbrev pub hex4 : ℕ → List ℕ
 hex4 v = hex2 (v / 256) ++ hex2 v

@@ -8,10 +8,13 @@ use Rattle.text.specs.Hex.{hex2, hex4, newline, space}
 abbrev pub wiresLine : ℕ → List ℕ
 wiresLine n = hex2 n ++ newline ∷ []
 
+-- a 4-digit number and the byte after it
+abbrev pub number : ℕ → ℕ → List ℕ
+number v after = hex4 v ++ after ∷ []
+
 -- T in, odd set size, T out and moves, as four 4-digit numbers with single spaces
 abbrev pub countsLine : ℕ → ℕ → ℕ → ℕ → List ℕ
-countsLine tIn oddSize tOut moves =
-    (hex4 tIn ++ space ∷ []) ++ (hex4 oddSize ++ space ∷ []) ++ (hex4 tOut ++ space ∷ []) ++ (hex4 moves ++ newline ∷ [])
+countsLine tIn oddSize tOut moves = number tIn space ++ number oddSize space ++ number tOut space ++ number moves newline
 
 -- a gate in six digits
 abbrev pub gateLine : Gate → List ℕ
@@ -28,4 +31,4 @@ refused = 114 ∷ 101 ∷ 102 ∷ 117 ∷ 115 ∷ 101 ∷ 100 ∷ space ∷ []
 
 -- a fault: `refused `, the number in two digits, a space and the place in four
 abbrev pub refusedLine : ℕ → ℕ → List ℕ
-refusedLine number place = refused ++ hex2 number ++ space ∷ [] ++ hex4 place ++ newline ∷ []
+refusedLine fault place = refused ++ hex2 fault ++ space ∷ [] ++ number place newline

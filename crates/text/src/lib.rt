@@ -5,6 +5,7 @@ ghost use Rattle.text.specs.Entry.{ReadText};
 
 pub mod hex;
 pub mod limits;
+pub mod lines;
 pub mod reading;
 
 use circuit::Reply;
