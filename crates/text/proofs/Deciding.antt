@@ -55,6 +55,7 @@ gates-decided (suc r) i (b ∷ t) e =
   where
     some : 0 < length (take (enough (suc r)) (b ∷ t))
     some = taken-some (suc r) b t
+
     go : (f : Bool) → firstFormed gateDigits (linesOf (b ∷ t)) ≡ f → firstFormed gateDigits (linesOf (take (enough (suc r)) (b ∷ t))) ≡ firstFormed gateDigits (linesOf (b ∷ t))
         → ((u : List ℕ) → faultFrom (take (enough r) u) 0 (i + 1) ≡ faultFrom u 0 (i + 1))
         → faultFrom (take (enough (suc r)) (b ∷ t)) 0 i ≡ faultFrom (b ∷ t) 0 i
@@ -83,7 +84,7 @@ fault-decided t = go (firstFormed wiresDigits (linesOf t)) refl (formed-take wir
     go true f h =
         by-count (take textBytes t) (h ∙ f)
         ∙ ap₂ (λ (v : ℕ) (r : Reply). refuse (wiresFault v) 0 r) (byte-take textBytes t (omega arith))
-            (ap (λ (l : List ℕ). faultFrom l 0 0) (drop-take wiresLineBytes (enough maxGates) t) ∙ gates-decided maxGates 0 (drop wiresLineBytes t) refl)
+        (ap (λ (l : List ℕ). faultFrom l 0 0) (drop-take wiresLineBytes (enough maxGates) t) ∙ gates-decided maxGates 0 (drop wiresLineBytes t) refl)
         ∙ sym (by-count t f)
 
 -- a text without a fault has at most so many bytes

@@ -9,11 +9,6 @@ ghost use Rattle.text.specs.Limits.{gateDigits, wiresLineBytes};
 ghost use Rattle.text.specs.Lines.{byteAt, firstFormed, gateSpelledAt, linesOf, linesSpell};
 ghost use Rattle.text.specs.Placed.{Stores};
 ghost use Rattle.text.specs.Text.{gatesFault, linesFault};
-use circuit::Reply;
-use circuit::faults::LIST_LENGTH;
-use circuit::faults::wires_fault;
-use circuit::limits::GATE_BYTES;
-use circuit::limits::MAX_GATES;
 use crate::hex::NEWLINE;
 use crate::hex::is_digit;
 use crate::hex::value_of;
@@ -21,6 +16,11 @@ use crate::limits::GATE_DIGITS;
 use crate::limits::GATE_LINE_BYTES;
 use crate::limits::WIRES_DIGITS;
 use crate::limits::WIRES_LINE_BYTES;
+use circuit::Reply;
+use circuit::faults::LIST_LENGTH;
+use circuit::faults::wires_fault;
+use circuit::limits::GATE_BYTES;
+use circuit::limits::MAX_GATES;
 
 pub const MALFORMED: u8 = 9;
 

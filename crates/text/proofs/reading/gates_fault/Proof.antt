@@ -51,10 +51,11 @@ loop-again : tie.Need-loop-again Inv-loop μ-loop
 loop-again c =
     let at = c .before .before .before .before in
     let t = now (at .before .before .args .text) in
-    let e = sym (c .before .line-formed .ensures) ∙ not-false _ (c .if2 .left) in
-    (search needs,
-    omega (arith, formed-long t (at .loop .at) gateDigits e),
-    gate-right t (at .loop .at) (at .loop .i) (omega arith) e ∙ at .loop .inv .2)
+    let e = sym (c .before .line-formed .ensures) ∙ not-false _ (c .if2 .left) in (
+      search needs,
+      omega (arith, formed-long t (at .loop .at) gateDigits e),
+      gate-right t (at .loop .at) (at .loop .i) (omega arith) e ∙ at .loop .inv .2,
+    )
 
 returns-3 : tie.Need-returns-3 Inv-loop μ-loop
 returns-3 c =

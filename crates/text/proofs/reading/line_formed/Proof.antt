@@ -50,10 +50,11 @@ loop-less c = search needs
 loop-again : tie.Need-loop-again Inv-loop μ-loop
 loop-again c =
     let at = c .before .before .before .before in
-    let a = at .before .before .before .args in
-    (search needs,
-    search needs,
-    digit-right (now (a .text)) (a .at) (at .loop .j) (omega arith) (a .digits) (omega arith) (sym (c .before .is-digit .ensures) ∙ not-false _ (c .if2 .left)) ∙ at .loop .inv .2)
+    let a = at .before .before .before .args in (
+      search needs,
+      search needs,
+      digit-right (now (a .text)) (a .at) (at .loop .j) (omega arith) (a .digits) (omega arith) (sym (c .before .is-digit .ensures) ∙ not-false _ (c .if2 .left)) ∙ at .loop .inv .2,
+    )
 
 add-result : tie.Need-add-result Inv-loop μ-loop
 add-result c = search needs

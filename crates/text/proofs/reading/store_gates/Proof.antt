@@ -56,12 +56,13 @@ loop-again c =
     let p = at .loop .at in
     let i = at .loop .i in
     let d = at .loop .inv .2 in
-    let e = done-formed t p i (omega arith) d in
-    (ap length (c .before .before .store-gate .ensures) ∙ simp length-set (at .loop .inv .0),
-    omega (arith, done-few t p i (omega arith) d),
-    done-next t p i (omega arith) d,
-    bytes-counted t p e i (length (bytesFrom t wiresLineBytes)) (at .loop .inv .3),
-    bytes-stored t p e i (at .loop .gates) _ _ (c .before .before .store-gate .ensures) (at .loop .inv .4))
+    let e = done-formed t p i (omega arith) d in (
+      ap length (c .before .before .store-gate .ensures) ∙ simp length-set (at .loop .inv .0),
+      omega (arith, done-few t p i (omega arith) d),
+      done-next t p i (omega arith) d,
+      bytes-counted t p e i (length (bytesFrom t wiresLineBytes)) (at .loop .inv .3),
+      bytes-stored t p e i (at .loop .gates) _ _ (c .before .before .store-gate .ensures) (at .loop .inv .4),
+    )
 
 same-length : tie.Need-same-length Inv-loop μ-loop
 same-length c = c .before .loop .inv .0
