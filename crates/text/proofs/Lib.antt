@@ -5,3 +5,4 @@ pub mod Storing
 pub mod TextWays
 pub mod Deciding
 pub mod Writing
+pub mod RoundTrip

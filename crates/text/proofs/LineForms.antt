@@ -53,7 +53,7 @@ first-formed (suc k) (b ∷ bs) = go (isDigit b) refl (first-formed k bs)
     go true h ih = rw (not-newline b h) (ih ∙ sym (in-front k b (linesOf bs) ∙ rw h))
     go false h ih = sym (no-digit k b (linesOf bs) (linesOf bs) (eqb b newline) h)
 
-and-both : (a b : Bool) → a && b ≡ true → (a ≡ true) × (b ≡ true)
+pub and-both : (a b : Bool) → a && b ≡ true → (a ≡ true) × (b ≡ true)
 and-both true b e = (refl, e)
 and-both false b e = absurd (false≢true e)
 

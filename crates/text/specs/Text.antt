@@ -1,11 +1,12 @@
 -- Document 01, "Text form": what a text is, a circuit or faulty. Line one is n in two digits; each further line is one gate in six.
 use mathlib.Core.Bool.{cond}
 use mathlib.Core.List.{List, [], _∷_}
-use Prim.Native.Nat.{_+_, suc, ℕ}
+use mathlib.Core.Path.{_≡_}
+use Prim.Native.Nat.{_%_, _+_, _<_, _≤_, suc, ℕ}
 use lib.Dec.{ltb}
-use lib.ListN.{getD}
+use lib.ListN.{getD, length}
 use Rattle.circuit.specs.Faults.{listLength, refuse, wiresFault}
-use Rattle.circuit.specs.Limits.{maxGates}
+use Rattle.circuit.specs.Limits.{gateBytes, maxGates, maxListBytes, maxWires}
 use Rattle.circuit.specs.declared.Reply.{Reply}
 use Rattle.circuit.specs.declared.Reply.the-variants.{Done, Refused}
 use Rattle.text.specs.Limits.{gateDigits, wiresDigits}
@@ -49,3 +50,11 @@ linesSay (l ∷ ls) = circuit (wireCount l) (linesSpell ls)
 
 unfoldable pub readText : List ℕ → Text
 readText t = unlessRefused (linesFault (linesOf t)) (linesSay (linesOf t))
+
+-- a circuit that a text can say: the wire count and the number of gates within their limits, and bytes
+pub record Sayable (n : ℕ) (bytes : List ℕ) : Type 0 where
+  pub some : 1 ≤ n
+  pub few : n ≤ maxWires
+  pub whole : length bytes % gateBytes ≡ 0
+  pub short : length bytes ≤ maxListBytes
+  pub byte : (i : ℕ) → getD bytes i 0 < 256

@@ -1,7 +1,7 @@
 -- Document 01, "Text form": the lines that the program writes. Every line ends with a newline.
 use mathlib.Core.List.{List, [], _∷_, _++_}
 use Prim.Native.Nat.{ℕ}
-use Rattle.circuit.specs.Gate.{Gate, gate}
+use Rattle.circuit.specs.Gate.{Gate, gate, gatesOf}
 use Rattle.text.specs.Hex.{hex2, hex4, newline, space}
 
 -- n in two digits
@@ -24,6 +24,10 @@ gateLine (gate kind a b) = hex2 kind ++ hex2 a ++ hex2 b ++ newline ∷ []
 unfoldable pub gateLines : List Gate → List ℕ
 gateLines [] = []
 gateLines (g ∷ gs) = gateLine g ++ gateLines gs
+
+-- the text of a circuit: n, then the gates
+abbrev pub textOf : ℕ → List ℕ → List ℕ
+textOf n bytes = wiresLine n ++ gateLines (gatesOf bytes)
 
 -- `refused `
 abbrev pub refused : List ℕ
