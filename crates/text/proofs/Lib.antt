@@ -6,3 +6,4 @@ pub mod TextWays
 pub mod Deciding
 pub mod Writing
 pub mod RoundTrip
+pub mod TextLaws

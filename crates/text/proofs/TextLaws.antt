@@ -1,0 +1,112 @@
+-- The page to read: which texts are circuits, which fault any other has, and what the promise of `read_text` means.
+use mathlib.Core.Bool.{Bool, cond, false, true}
+use mathlib.Core.List.{List, [], _∷_, _++_}
+use mathlib.Core.Path.{_∙_, _≡_, ap, ap₂, refl, sym}
+use Prim.Native.Nat.{_%_, _*_, _+_, _/_, _<_, _≤_, suc, zero, ℕ}
+use native.Mathlib.Decide.{decLt}
+use native.Mathlib.Nat.{zero-add}
+use native.Mathlib.Omega.{arith}
+use lib.Dec.{ltb}
+use lib.ListN.{drop, getD, length, length-append, take}
+use lib.Seq.{drop-append-seam, take-append-seam}
+use borrow.Author.Tests.{le-ltb, lt-ltb}
+use Rattle.circuit.specs.Faults.{lentOutput, listLength}
+use Rattle.circuit.specs.Gate.{Gate, gate, gatesOf}
+use Rattle.circuit.specs.Limits.{gateBytes, maxGates, maxListBytes}
+use Rattle.text.proofs.Deciding.{text-decided}
+use Rattle.text.proofs.HexDigits.{value-digit}
+use Rattle.text.proofs.RoundTrip.{circuit-pass, length-gates, pair-hex, reads-written, written-reads}
+use Rattle.text.proofs.TextFaults.{gate-wrong, one-too-many, read-faulty}
+use Rattle.text.specs.Entry.{ReadText, gatesAfter, readInto, replyOf}
+use Rattle.text.specs.Hex.{digit, hex2, hex4}
+use Rattle.text.specs.Limits.{countsLineBytes, gateDigits, gateLineBytes, maxWritten, refusedLineBytes, replyBytes, textBytes, wiresLineBytes}
+use Rattle.text.specs.Lines.{firstFormed, linesOf, spelled}
+use Rattle.text.specs.Placed.{placed}
+use Rattle.text.specs.Text.{Sayable, Text, circuit, faulty, malformed, readText}
+use Rattle.text.specs.Written.{countsLine, gateLine, gateLines, refusedLine, textOf, wiresLine}
+use Rattle.text.specs.declared.TextReply.{TextReply}
+use Rattle.text.specs.declared.TextReply.the-variants.{Done, Refused}
+
+-- ---- which texts are circuits
+
+-- what is written reads back
+pub circuit-reads-back : (n : ℕ) (bytes : List ℕ) → Sayable n bytes → readText (textOf n bytes) ≡ circuit n bytes
+circuit-reads-back = written-reads
+
+-- and a text that reads as a circuit is that circuit's lines: nothing faulty is accepted
+pub accepted-is-written : (t : List ℕ) (n : ℕ) (bytes : List ℕ) → readText t ≡ circuit n bytes → Sayable n bytes × (t ≡ textOf n bytes)
+accepted-is-written = reads-written
+
+-- ---- the first fault, after the lines of a circuit
+
+module _ (n : ℕ) (bytes rest : List ℕ) (is : Sayable n bytes) (more : 0 < length rest) where
+  -- a line that has not the form of a gate line is named by its number: line one, a line for each gate, and itself
+  pub malformed-line : length bytes < maxListBytes → firstFormed gateDigits (linesOf rest) ≡ false
+      → readText (textOf n bytes ++ rest) ≡ faulty malformed (length (gatesOf bytes) + 2)
+  malformed-line h e =
+      read-faulty (textOf n bytes ++ rest) malformed (length (gatesOf bytes) + 2)
+      (circuit-pass n bytes is rest ∙ gate-wrong rest 0 (length (gatesOf bytes)) more (omega (arith, length-gates bytes (is .whole))) e)
+
+  -- after 4,096 gates anything at all gives 2
+  pub one-line-more : length bytes ≡ maxListBytes → readText (textOf n bytes ++ rest) ≡ faulty listLength 0
+  one-line-more h =
+      read-faulty (textOf n bytes ++ rest) listLength 0
+      (circuit-pass n bytes is rest ∙ one-too-many rest 0 (length (gatesOf bytes)) more (omega (arith, length-gates bytes (is .whole))))
+
+-- ---- the first 28,676 bytes decide
+
+pub first-bytes-decide : (t : List ℕ) → readText t ≡ readText (take textBytes t)
+first-bytes-decide t = sym (text-decided t)
+
+-- so a call with these bytes alone replies and leaves what one with the whole text does
+pub call-decided : (t gates gates′ : List ℕ) (r : TextReply) → ReadText (take textBytes t) gates gates′ r → ReadText t gates gates′ r
+call-decided t gates gates′ r c =
+    let same : readInto (length gates) (take textBytes t) ≡ readInto (length gates) t = ap (λ (x : Text). cond (ltb (length gates) maxListBytes) (faulty lentOutput 0) x) (text-decided t) in
+    record { reply = c .reply ∙ ap replyOf same; gates-left = c .gates-left ∙ ap (λ (x : Text). gatesAfter x gates) same }
+
+-- ---- what the promise of `read_text` means
+
+refused-read : (number place n m : ℕ) → Refused number place ≡ Done n m → ⊥
+refused-read number place n m e = let z : _≡_ {A = ℕ} 0 1 = cc in omega arith
+
+-- after a refusal the lent gates are as they were
+pub refusal-leaves : (t gates gates′ : List ℕ) (number place : ℕ) → ReadText t gates gates′ (Refused number place) → gates′ ≡ gates
+refusal-leaves t gates gates′ number place c = go (readInto (length gates) t) (c .reply) (c .gates-left)
+  where
+    go : (x : Text) → Refused number place ≡ replyOf x → gates′ ≡ gatesAfter x gates → gates′ ≡ gates
+    go (circuit n bytes) e l = absurd (refused-read number place n (length bytes / gateBytes) e)
+    go (faulty f p) e l = l
+
+-- the circuit that was read: n wires, and the gates' bytes in the first 3·m of those lent, the rest being as it was
+pub record Read (t gates gates′ : List ℕ) (n m : ℕ) : Type 0 where
+  pub says : readText t ≡ circuit n (take (gateBytes * m) gates′)
+  pub sayable : Sayable n (take (gateBytes * m) gates′)
+  pub rest : drop (gateBytes * m) gates′ ≡ drop (gateBytes * m) gates
+  pub few : m ≤ maxGates
+  pub long : length (take (gateBytes * m) gates′) ≡ gateBytes * m
+
+pub done-reads : (t gates gates′ : List ℕ) (n m : ℕ) → ReadText t gates gates′ (Done n m) → Read t gates gates′ n m
+done-reads t gates gates′ n m c = go (decLt (length gates) maxListBytes)
+  where
+    text-said : maxListBytes ≤ length gates → readInto (length gates) t ≡ readText t
+    text-said h = simp (le-ltb (length gates) maxListBytes h)
+    lent-said : length gates < maxListBytes → readInto (length gates) t ≡ faulty lentOutput 0
+    lent-said h = simp (lt-ltb (length gates) maxListBytes h)
+    of-text : (x : Text) → readText t ≡ x → Done n m ≡ replyOf x → gates′ ≡ gatesAfter x gates → Read t gates gates′ n m
+    of-text (faulty f p) e r l = absurd (refused-read f p n m (sym r))
+    of-text (circuit k bytes) e r l =
+        let s = reads-written t k bytes e .0 in
+        let a : k ≡ n = cc in
+        let b : m ≡ length bytes / gateBytes = cc in
+        let d : gateBytes * m ≡ length bytes = omega (arith, s .whole) in
+        let front : take (gateBytes * m) gates′ ≡ bytes = rw (d, l) (take-append-seam bytes (drop (0 + length bytes) gates)) in
+        record {
+          says = e ∙ ap₂ circuit a (sym front);
+          sayable = rw front (rw (← a) s);
+          rest = rw (d, l) (drop-append-seam bytes (drop (0 + length bytes) gates) ∙ rw (zero-add (length bytes)));
+          few = omega (arith, s .short);
+          long = ap length front ∙ sym d;
+        }
+    go : Dec (length gates < maxListBytes) → Read t gates gates′ n m
+    go (yes h) = absurd (refused-read lentOutput 0 n m (sym (c .reply ∙ ap replyOf (lent-said h))))
+    go (no h) = of-text (readText t) refl (c .reply ∙ ap replyOf (text-said (omega arith))) (c .gates-left ∙ ap (λ (x : Text). gatesAfter x gates) (text-said (omega arith)))
