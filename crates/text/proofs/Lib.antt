@@ -7,3 +7,4 @@ pub mod Deciding
 pub mod Writing
 pub mod RoundTrip
 pub mod TextLaws
+pub mod TextExamples

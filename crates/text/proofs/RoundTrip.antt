@@ -24,8 +24,12 @@ use Rattle.text.specs.Written.{gateLine, gateLines, textOf, wiresLine}
 
 -- ---- a byte and its two digits
 
+-- the last two digits of a number spell its low byte
+pub pair-low : (v : ℕ) → pair (digit (v / 16 % 16)) (digit (v % 16)) ≡ v % 256
+pair-low v = omega (arith, value-digit (v / 16 % 16) (omega arith) .value, value-digit (v % 16) (omega arith) .value)
+
 pub pair-hex : (v : ℕ) → v < 256 → pair (digit (v / 16 % 16)) (digit (v % 16)) ≡ v
-pair-hex v h = omega (arith, value-digit (v / 16 % 16) (omega arith) .value, value-digit (v % 16) (omega arith) .value)
+pair-hex v h = pair-low v ∙ omega arith
 
 pub hex-pair : (a b : ℕ) → isDigit a ≡ true → isDigit b ≡ true → hex2 (pair a b) ≡ a ∷ b ∷ []
 hex-pair a b f g =
@@ -273,7 +277,7 @@ module _ (t : List ℕ) (done : linesFault (linesOf t) ≡ Done) where
       ∙ ap (λ (l : List ℕ). wiresLine (line-one .n) ++ l) (sym after-one ∙ said-gates .written)
       ∙ ap (λ (n : ℕ). textOf n (linesSpell (linesOf (drop wiresLineBytes t)))) (sym said-count)
 
-never : (number place n : ℕ) (bytes : List ℕ) → faulty number place ≡ circuit n bytes → ⊥
+pub never : (number place n : ℕ) (bytes : List ℕ) → faulty number place ≡ circuit n bytes → ⊥
 never number place n bytes e = let z : _≡_ {A = ℕ} 0 1 = cc in omega arith
 
 pub reads-written : (t : List ℕ) (n : ℕ) (bytes : List ℕ) → readText t ≡ circuit n bytes → Sayable n bytes × (t ≡ textOf n bytes)

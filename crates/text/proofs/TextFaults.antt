@@ -3,15 +3,15 @@ use mathlib.Core.Bool.{Bool, cond, false, true}
 use mathlib.Core.List.{List, [], _∷_}
 use mathlib.Core.Logic.{_≢_}
 use mathlib.Core.Path.{_∙_, _≡_, ap, refl, sym}
-use Prim.Native.Nat.{_+_, _<_, _≤_, suc, ℕ}
-use native.Mathlib.Decide.{decLt}
+use Prim.Native.Nat.{_+_, _<_, _≤_, suc, zero, ℕ}
+use native.Mathlib.Decide.{decLe, decLt, ℕ-discrete}
 use native.Mathlib.Numerals.{add-one}
 use native.Mathlib.Omega.{arith}
 use lib.ListN.{drop, drop-of-length-le, length, take}
-use borrow.Author.Tests.{le-ltb, lt-ltb}
-use Rattle.circuit.proofs.Judging.{refuse-done, refused}
+use borrow.Author.Tests.{eq-eqb, le-ltb, lt-leb, lt-ltb, ne-eqb}
+use Rattle.circuit.proofs.Judging.{refuse-done, refused, wires-well}
 use Rattle.circuit.specs.Faults.{listLength, refuse, wiresFault}
-use Rattle.circuit.specs.Limits.{maxGates}
+use Rattle.circuit.specs.Limits.{maxGates, maxWires}
 use Rattle.circuit.specs.declared.Reply.{Reply}
 use Rattle.circuit.specs.declared.Reply.the-variants.{Done, Refused}
 use Rattle.text.proofs.LineForms.{formed-lines, formed-long, some-line}
@@ -148,3 +148,45 @@ module _ (t : List ℕ) (done : linesFault (linesOf t) ≡ Done) where
 pub read-faulty : (t : List ℕ) (number place : ℕ) → linesFault (linesOf t) ≡ Refused number place → readText t ≡ faulty number place
 unfolding readText
 read-faulty t number place e = rw e
+
+-- ---- a fault's number and place are small
+
+abbrev pub Small : ℕ → ℕ → Type 0
+Small number place = (number ≤ malformed) × (place ≤ maxGates + 1)
+
+same-fault : (f p number place : ℕ) → Refused f p ≡ Refused number place → Small f p → Small number place
+same-fault f p number place e h =
+    let a : f ≡ number = cc in
+    let b : p ≡ place = cc in
+    omega arith
+
+gates-small : (ls : List Line) (i number place : ℕ) → gatesFault i ls ≡ Refused number place → Small number place
+unfolding gatesFault
+gates-small [] i number place e = absurd (not-done number place (sym e))
+gates-small (l ∷ ls) i number place e = go (decLt i maxGates) (formed gateDigits l) refl (λ (f : gatesFault (suc i) ls ≡ Refused number place). gates-small ls (suc i) number place f)
+  where
+    go : Dec (i < maxGates) → (b : Bool) → formed gateDigits l ≡ b → (gatesFault (suc i) ls ≡ Refused number place → Small number place) → Small number place
+    go (no h) b f later = same-fault listLength 0 number place (sym (many i l ls (omega arith)) ∙ e) (omega arith)
+    go (yes h) false f later = same-fault malformed (i + 2) number place (sym (wrong i l ls h f) ∙ e) (omega arith)
+    go (yes h) true f later = later (sym (right i l ls h f) ∙ e)
+
+wires-small : (n : ℕ) → wiresFault n ≤ 1
+wires-small n = go (ℕ-discrete n 0) (decLe n maxWires)
+  where
+    go : Dec (n ≡ 0) → Dec (n ≤ maxWires) → wiresFault n ≤ 1
+    go (yes e) b = simp (eq-eqb n 0 e) (omega arith)
+    go (no e) (yes h) = omega (arith, wires-well n (omega arith) h)
+    go (no e) (no h) = simp (ne-eqb n 0 e, lt-leb n maxWires (omega arith)) (omega arith)
+
+refuse-small : (f : ℕ) (rest : Reply) (number place : ℕ) → f ≤ 1 → refuse f 0 rest ≡ Refused number place → (rest ≡ Refused number place → Small number place) → Small number place
+refuse-small zero rest number place h e later = later e
+refuse-small (suc f) rest number place h e later = same-fault (suc f) 0 number place e (omega arith)
+
+pub faults-small : (t : List ℕ) (number place : ℕ) → linesFault (linesOf t) ≡ Refused number place → Small number place
+faults-small t number place e = go (firstFormed wiresDigits (linesOf t)) refl
+  where
+    go : (b : Bool) → firstFormed wiresDigits (linesOf t) ≡ b → Small number place
+    go false f = same-fault malformed 1 number place (sym (one-wrong t f) ∙ e) (omega arith)
+    go true f =
+        refuse-small (wiresFault (byteAt t 0)) (faultFrom t wiresLineBytes 0) number place (wires-small (byteAt t 0)) (sym (by-count t f) ∙ e)
+        (gates-small (linesOf (drop wiresLineBytes t)) 0 number place)

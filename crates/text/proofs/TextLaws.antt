@@ -13,16 +13,18 @@ use borrow.Author.Tests.{le-ltb, lt-ltb}
 use Rattle.circuit.specs.Faults.{lentOutput, listLength}
 use Rattle.circuit.specs.Gate.{Gate, gate, gatesOf}
 use Rattle.circuit.specs.Limits.{gateBytes, maxGates, maxListBytes}
+use Rattle.circuit.specs.declared.Reply.{Reply}
+use Rattle.circuit.specs.declared.Reply.the-variants.{Done as Judged, Refused as Found}
 use Rattle.text.proofs.Deciding.{text-decided}
 use Rattle.text.proofs.HexDigits.{value-digit}
-use Rattle.text.proofs.RoundTrip.{circuit-pass, length-gates, pair-hex, reads-written, written-reads}
-use Rattle.text.proofs.TextFaults.{gate-wrong, one-too-many, read-faulty}
+use Rattle.text.proofs.RoundTrip.{circuit-pass, length-gates, never, pair-hex, pair-low, reads-written, written-reads}
+use Rattle.text.proofs.TextFaults.{Small, faults-small, gate-wrong, one-too-many, read-circuit, read-faulty}
 use Rattle.text.specs.Entry.{ReadText, gatesAfter, readInto, replyOf}
 use Rattle.text.specs.Hex.{digit, hex2, hex4}
 use Rattle.text.specs.Limits.{countsLineBytes, gateDigits, gateLineBytes, maxWritten, refusedLineBytes, replyBytes, textBytes, wiresLineBytes}
 use Rattle.text.specs.Lines.{firstFormed, linesOf, spelled}
 use Rattle.text.specs.Placed.{placed}
-use Rattle.text.specs.Text.{Sayable, Text, circuit, faulty, malformed, readText}
+use Rattle.text.specs.Text.{Sayable, Text, circuit, faulty, linesFault, malformed, readText}
 use Rattle.text.specs.Written.{countsLine, gateLine, gateLines, refusedLine, textOf, wiresLine}
 use Rattle.text.specs.declared.TextReply.{TextReply}
 use Rattle.text.specs.declared.TextReply.the-variants.{Done, Refused}
@@ -52,6 +54,24 @@ module _ (n : ℕ) (bytes rest : List ℕ) (is : Sayable n bytes) (more : 0 < le
   one-line-more h =
       read-faulty (textOf n bytes ++ rest) listLength 0
       (circuit-pass n bytes is rest ∙ one-too-many rest 0 (length (gatesOf bytes)) more (omega (arith, length-gates bytes (is .whole))))
+
+-- every fault's number is at most 9 and its place at most 4,097, so two and four digits say them
+pub fault-small : (lent : ℕ) (t : List ℕ) (number place : ℕ) → readInto lent t ≡ faulty number place → (number ≤ malformed) × (place ≤ maxGates + 1)
+fault-small lent t number place e = go (decLt lent maxListBytes)
+  where
+    same : (f p : ℕ) → faulty f p ≡ faulty number place → Small f p → Small number place
+    same f p d h =
+        let a : f ≡ number = cc in
+        let b : p ≡ place = cc in
+        omega arith
+
+    of-text : (r : Reply) → linesFault (linesOf t) ≡ r → readText t ≡ faulty number place → Small number place
+    of-text Judged f d = absurd (never number place _ _ (sym d ∙ read-circuit t f))
+    of-text (Found x y) f d = same x y (sym (read-faulty t x y f) ∙ d) (faults-small t x y f)
+
+    go : Dec (lent < maxListBytes) → Small number place
+    go (yes h) = same lentOutput 0 (simp (lt-ltb lent maxListBytes h) at e) (omega arith)
+    go (no h) = of-text (linesFault (linesOf t)) refl (simp (le-ltb lent maxListBytes (omega arith)) at e)
 
 -- ---- the first 28,676 bytes decide
 
@@ -90,8 +110,10 @@ done-reads t gates gates′ n m c = go (decLt (length gates) maxListBytes)
   where
     text-said : maxListBytes ≤ length gates → readInto (length gates) t ≡ readText t
     text-said h = simp (le-ltb (length gates) maxListBytes h)
+
     lent-said : length gates < maxListBytes → readInto (length gates) t ≡ faulty lentOutput 0
     lent-said h = simp (lt-ltb (length gates) maxListBytes h)
+
     of-text : (x : Text) → readText t ≡ x → Done n m ≡ replyOf x → gates′ ≡ gatesAfter x gates → Read t gates gates′ n m
     of-text (faulty f p) e r l = absurd (refused-read f p n m (sym r))
     of-text (circuit k bytes) e r l =
@@ -107,6 +129,40 @@ done-reads t gates gates′ n m c = go (decLt (length gates) maxListBytes)
           few = omega (arith, s .short);
           long = ap length front ∙ sym d;
         }
+
     go : Dec (length gates < maxListBytes) → Read t gates gates′ n m
     go (yes h) = absurd (refused-read lentOutput 0 n m (sym (c .reply ∙ ap replyOf (lent-said h))))
     go (no h) = of-text (readText t) refl (c .reply ∙ ap replyOf (text-said (omega arith))) (c .gates-left ∙ ap (λ (x : Text). gatesAfter x gates) (text-said (omega arith)))
+
+-- ---- the lines written
+
+-- two digits spell a byte, and four a number below 2^16, high byte first
+pub hex2-spells : (v : ℕ) → v < 256 → spelled (hex2 v) ≡ v ∷ []
+unfolding spelled
+hex2-spells v h = rw (pair-hex v h)
+
+pub hex4-spells : (v : ℕ) → v < 256 * 256 → spelled (hex4 v) ≡ v / 256 ∷ v % 256 ∷ []
+unfolding spelled
+hex4-spells v h = rw (pair-hex (v / 256) (omega arith), pair-low v)
+
+pub wires-line-long : (n : ℕ) → length (wiresLine n) ≡ wiresLineBytes
+wires-line-long n = refl
+
+pub counts-line-long : (tIn oddSize tOut moves : ℕ) → length (countsLine tIn oddSize tOut moves) ≡ countsLineBytes
+counts-line-long tIn oddSize tOut moves = refl
+
+pub refused-line-long : (fault place : ℕ) → length (refusedLine fault place) ≡ refusedLineBytes
+refused-line-long fault place = refl
+
+pub gate-line-long : (g : Gate) → length (gateLine g) ≡ gateLineBytes
+gate-line-long (gate kind a b) = refl
+
+pub gate-lines-long : (gs : List Gate) → length (gateLines gs) ≡ gateLineBytes * length gs
+unfolding gateLines
+gate-lines-long [] = refl
+gate-lines-long (g ∷ gs) = length-append (gateLine g) (gateLines gs) ∙ omega (arith, gate-line-long g, gate-lines-long gs)
+
+-- the longest reply
+pub reply-fits : (n tIn oddSize tOut moves : ℕ) (gs : List Gate) → length gs ≤ maxWritten
+    → length (wiresLine n ++ countsLine tIn oddSize tOut moves ++ gateLines gs) ≤ replyBytes
+reply-fits n tIn oddSize tOut moves gs h = omega (arith, length-append (wiresLine n ++ countsLine tIn oddSize tOut moves) (gateLines gs), gate-lines-long gs)
