@@ -28,9 +28,9 @@ module _ (was : List ℕ) (at : ℕ) (u mid : List ℕ) (m : ℕ) (w : Writes wa
   writes-before v = rw (writes-sets, w .onward) (sets-append was at u v)
 
 -- two calls in a row write the one's bytes and then the other's
-pub writes-then : (was : List ℕ) (at : ℕ) (u mid : List ℕ) (m : ℕ) (v left : List ℕ) (next : ℕ)
+pub writes-then : {was : List ℕ} {at : ℕ} {u mid : List ℕ} {m : ℕ} {v left : List ℕ} {next : ℕ}
     → Writes was at u mid m → Writes mid m v left next → at + length u + length v ≤ length was → Writes was at (u ++ v) left next
-writes-then was at u mid m v left next w x h =
+writes-then {was} {at} {u} {mid} {m} {v} {left} {next} w x h =
     let there : m + length v ≤ length mid = omega (arith, w .onward, writes-keeps was at u mid m w (omega arith)) in
     record {
       onward = omega (arith, x .onward, w .onward, length-append u v);

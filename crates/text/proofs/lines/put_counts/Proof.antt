@@ -1,7 +1,6 @@
 -- Four numbers in a row.
 use native.Mathlib.Omega.{arith}
 use borrow.Author.Needs.{needs}
-use denote.Ref.{now}
 use Rattle.text.proofs.Writing.{writes-then}
 use Rattle.text.proofs.lines.put_counts.Statement.{statement}
 use Rattle.text.proofs.lines.put_counts.Tie as tie
@@ -22,7 +21,12 @@ same-length : tie.Need-same-length
 same-length c = search needs
 
 returns : tie.Need-returns
-returns c = writes-then (now (c .before .before .before .before .before .before .before .before .before .before .before .before .before .before .before .before .before .args .out)) (c .before .before .before .before .before .before .before .before .before .before .before .before .before .before .before .before .before .args .at) _ _ _ _ _ _ (writes-then (now (c .before .before .before .before .before .before .before .before .before .before .before .before .before .before .before .before .before .args .out)) (c .before .before .before .before .before .before .before .before .before .before .before .before .before .before .before .before .before .args .at) _ _ _ _ _ _ (writes-then (now (c .before .before .before .before .before .before .before .before .before .before .before .before .before .before .before .before .before .args .out)) (c .before .before .before .before .before .before .before .before .before .before .before .before .before .before .before .before .before .args .at) _ _ _ _ _ _ (c .before .before .before .before .before .before .before .before .before .before .before .before .before .before .put-number .ensures) (c .before .before .before .before .before .before .before .before .before .before .put-number2 .ensures) (omega arith)) (c .before .before .before .before .before .before .put-number3 .ensures) (omega arith)) (c .before .before .put-number4 .ensures) (omega arith)
+returns c =
+    let z = c .before .before in
+    let y = z .before .before .before .before in
+    let x = y .before .before .before .before in
+    let w = x .before .before .before .before in
+    writes-then (writes-then (writes-then (w .put-number .ensures) (x .put-number2 .ensures) (omega arith)) (y .put-number3 .ensures) (omega arith)) (z .put-number4 .ensures) (omega arith)
 
 pub put-counts-spec : {M : Type 1} → statement M
 put-counts-spec =

@@ -1,7 +1,6 @@
 -- Three bytes, two digits each, then the newline.
 use native.Mathlib.Omega.{arith}
 use borrow.Author.Needs.{needs}
-use denote.Ref.{now}
 use Rattle.text.proofs.Writing.{writes-then}
 use Rattle.text.proofs.lines.put_gate.Statement.{statement}
 use Rattle.text.proofs.lines.put_gate.Tie as tie
@@ -22,7 +21,12 @@ same-length : tie.Need-same-length
 same-length c = search needs
 
 returns : tie.Need-returns
-returns c = writes-then (now (c .before .before .before .before .before .before .before .before .before .before .before .before .before .before .before .before .before .args .out)) (c .before .before .before .before .before .before .before .before .before .before .before .before .before .before .before .before .before .args .at) _ _ _ _ _ _ (writes-then (now (c .before .before .before .before .before .before .before .before .before .before .before .before .before .before .before .before .before .args .out)) (c .before .before .before .before .before .before .before .before .before .before .before .before .before .before .before .before .before .args .at) _ _ _ _ _ _ (writes-then (now (c .before .before .before .before .before .before .before .before .before .before .before .before .before .before .before .before .before .args .out)) (c .before .before .before .before .before .before .before .before .before .before .before .before .before .before .before .before .before .args .at) _ _ _ _ _ _ (c .before .before .before .before .before .before .before .before .before .before .before .before .before .before .put-two .ensures) (c .before .before .before .before .before .before .before .before .before .before .put-two2 .ensures) (omega arith)) (c .before .before .before .before .before .before .put-two3 .ensures) (omega arith)) (c .before .before .put-byte .ensures) (omega arith)
+returns c =
+    let z = c .before .before in
+    let y = z .before .before .before .before in
+    let x = y .before .before .before .before in
+    let w = x .before .before .before .before in
+    writes-then (writes-then (writes-then (w .put-two .ensures) (x .put-two2 .ensures) (omega arith)) (y .put-two3 .ensures) (omega arith)) (z .put-byte .ensures) (omega arith)
 
 pub put-gate-spec : {M : Type 1} → statement M
 put-gate-spec =

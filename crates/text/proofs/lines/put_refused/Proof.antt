@@ -1,7 +1,6 @@
 -- The fixed bytes, the number, a space and the place.
 use native.Mathlib.Omega.{arith}
 use borrow.Author.Needs.{needs}
-use denote.Ref.{now}
 use Rattle.text.proofs.Writing.{writes-then}
 use Rattle.text.proofs.lines.put_refused.Statement.{statement}
 use Rattle.text.proofs.lines.put_refused.Tie as tie
@@ -25,7 +24,12 @@ same-length : tie.Need-same-length
 same-length c = search needs
 
 returns : tie.Need-returns
-returns c = writes-then (now (c .before .before .before .before .before .before .before .before .before .before .before .before .before .before .before .before .before .before .args .out)) (c .before .before .before .before .before .before .before .before .before .before .before .before .before .before .before .before .before .before .args .at) _ _ _ _ _ _ (writes-then (now (c .before .before .before .before .before .before .before .before .before .before .before .before .before .before .before .before .before .before .args .out)) (c .before .before .before .before .before .before .before .before .before .before .before .before .before .before .before .before .before .before .args .at) _ _ _ _ _ _ (writes-then (now (c .before .before .before .before .before .before .before .before .before .before .before .before .before .before .before .before .before .before .args .out)) (c .before .before .before .before .before .before .before .before .before .before .before .before .before .before .before .before .before .before .args .at) _ _ _ _ _ _ (c .before .before .before .before .before .before .before .before .before .before .before .before .before .before .put .ensures) (c .before .before .before .before .before .before .before .before .before .before .put-two .ensures) (omega arith)) (c .before .before .before .before .before .before .put-byte .ensures) (omega arith)) (c .before .before .put-number .ensures) (omega arith)
+returns c =
+    let z = c .before .before in
+    let y = z .before .before .before .before in
+    let x = y .before .before .before .before in
+    let w = x .before .before .before .before in
+    writes-then (writes-then (writes-then (w .put .ensures) (x .put-two .ensures) (omega arith)) (y .put-byte .ensures) (omega arith)) (z .put-number .ensures) (omega arith)
 
 pub put-refused-spec : {M : Type 1} → statement M
 put-refused-spec =

@@ -29,7 +29,9 @@ same-length : tie.Need-same-length
 same-length c = search needs
 
 returns : tie.Need-returns
-returns c = two-written (now (c .before .before .before .args .out)) (c .before .before .before .args .at) _ _ _ _ (omega arith) (c .before .last-digit .ensures) (c .last-digit2 .ensures)
+returns c =
+    let a = c .before .before .before .args in
+    two-written (now (a .out)) (a .at) _ _ _ _ (omega arith) (c .before .last-digit .ensures) (c .last-digit2 .ensures)
 
 pub put-two-spec : {M : Type 1} → statement M
 put-two-spec =

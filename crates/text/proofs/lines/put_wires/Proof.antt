@@ -1,7 +1,6 @@
 -- The digits, then the newline.
 use native.Mathlib.Omega.{arith}
 use borrow.Author.Needs.{needs}
-use denote.Ref.{now}
 use Rattle.text.proofs.Writing.{writes-then}
 use Rattle.text.proofs.lines.put_wires.Statement.{statement}
 use Rattle.text.proofs.lines.put_wires.Tie as tie
@@ -16,7 +15,10 @@ same-length : tie.Need-same-length
 same-length c = search needs
 
 returns : tie.Need-returns
-returns c = writes-then (now (c .before .before .before .before .before .before .before .before .before .args .out)) (c .before .before .before .before .before .before .before .before .before .args .at) _ _ _ _ _ _ (c .before .before .before .before .before .before .put-two .ensures) (c .before .before .put-byte .ensures) (omega arith)
+returns c =
+    let y = c .before .before in
+    let x = y .before .before .before .before in
+    writes-then (x .put-two .ensures) (y .put-byte .ensures) (omega arith)
 
 pub put-wires-spec : {M : Type 1} → statement M
 put-wires-spec = tie.close (tie.spec put-two-requires put-byte-requires same-length returns)

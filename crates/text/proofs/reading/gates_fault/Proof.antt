@@ -25,7 +25,10 @@ loop-holds c = search needs
 returns : tie.Need-returns Inv-loop μ-loop
 returns c =
     let at = c .before .before in
-    sym (one-too-many (now (at .before .before .args .text)) (at .loop .at) (at .loop .i) (omega arith) (omega arith)) ∙ at .loop .inv .2
+    let t = now (at .before .before .args .text) in
+    let p = at .loop .at in
+    let i = at .loop .i in
+    sym (one-too-many t p i (omega arith) (omega arith)) ∙ at .loop .inv .2
 
 line-formed-requires : tie.Need-line-formed-requires Inv-loop μ-loop
 line-formed-requires c κs = search needs
@@ -36,31 +39,41 @@ add-t7 c = search needs
 returns-2 : tie.Need-returns-2 Inv-loop μ-loop
 returns-2 c =
     let at = c .before .before .before .before in
-    sym (gate-wrong (now (at .before .before .args .text)) (at .loop .at) (at .loop .i) (omega arith) (omega arith) (sym (c .before .line-formed .ensures) ∙ not-true _ (c .if2 .taken))) ∙ at .loop .inv .2
+    let t = now (at .before .before .args .text) in
+    let p = at .loop .at in
+    let i = at .loop .i in
+    let e = sym (c .before .line-formed .ensures) ∙ not-true _ (c .if2 .taken) in
+    sym (gate-wrong t p i (omega arith) (omega arith) e) ∙ at .loop .inv .2
 
 add-at : tie.Need-add-at Inv-loop μ-loop
-add-at c = omega (arith, formed-long (now (c .before .before .before .before .before .before .args .text)) (c .before .before .before .before .loop .at) gateDigits (sym (c .before .line-formed .ensures) ∙ not-false _ (c .if2 .left)))
+add-at c =
+    let e = sym (c .before .line-formed .ensures) ∙ not-false _ (c .if2 .left) in
+    omega (arith, formed-long (now (c .before .before .before .before .before .before .args .text)) (c .before .before .before .before .loop .at) gateDigits e)
 
 add-i : tie.Need-add-i Inv-loop μ-loop
 add-i c = search needs
 
 loop-less : tie.Need-loop-less Inv-loop μ-loop
-loop-less c = omega (arith, formed-long (now (c .before .before .before .before .before .before .args .text)) (c .before .before .before .before .loop .at) gateDigits (sym (c .before .line-formed .ensures) ∙ not-false _ (c .if2 .left)))
+loop-less c =
+    let e = sym (c .before .line-formed .ensures) ∙ not-false _ (c .if2 .left) in
+    omega (arith, formed-long (now (c .before .before .before .before .before .before .args .text)) (c .before .before .before .before .loop .at) gateDigits e)
 
 loop-again : tie.Need-loop-again Inv-loop μ-loop
 loop-again c =
     let at = c .before .before .before .before in
     let t = now (at .before .before .args .text) in
-    let e = sym (c .before .line-formed .ensures) ∙ not-false _ (c .if2 .left) in (
-      search needs,
-      omega (arith, formed-long t (at .loop .at) gateDigits e),
-      gate-right t (at .loop .at) (at .loop .i) (omega arith) e ∙ at .loop .inv .2,
-    )
+    let p = at .loop .at in
+    let i = at .loop .i in
+    let e = sym (c .before .line-formed .ensures) ∙ not-false _ (c .if2 .left) in
+    (search needs, omega (arith, formed-long t p gateDigits e), gate-right t p i (omega arith) e ∙ at .loop .inv .2)
 
 returns-3 : tie.Need-returns-3 Inv-loop μ-loop
 returns-3 c =
     let at = c .before in
-    sym (no-more (now (at .before .before .args .text)) (at .loop .at) (at .loop .i) (omega arith)) ∙ at .loop .inv .2
+    let t = now (at .before .before .args .text) in
+    let p = at .loop .at in
+    let i = at .loop .i in
+    sym (no-more t p i (omega arith)) ∙ at .loop .inv .2
 
 pub gates-fault-spec : {M : Type 1} → statement M
 gates-fault-spec =

@@ -12,10 +12,16 @@ line-formed-requires : tie.Need-line-formed-requires
 line-formed-requires c κs = search needs
 
 returns : tie.Need-returns
-returns c = sym (one-wrong (now (c .before .before .before .args .text)) (sym (c .before .line-formed .ensures) ∙ not-true _ (c .if1 .taken)))
+returns c =
+    let l = c .before in
+    sym (one-wrong (now (l .before .before .args .text)) (sym (l .line-formed .ensures) ∙ not-true _ (c .if1 .taken)))
 
 byte-at-requires : tie.Need-byte-at-requires
-byte-at-requires c κs = omega (arith, one-long (now (c .before .before .before .args .text)) (sym (c .before .line-formed .ensures) ∙ not-false _ (c .if1 .left)))
+byte-at-requires c κs =
+    let l = c .before in
+    let t = now (l .before .before .args .text) in
+    let e = sym (l .line-formed .ensures) ∙ not-false _ (c .if1 .left) in
+    omega (arith, one-long t e)
 
 cast-wires-fault : tie.Need-cast-wires-fault
 cast-wires-fault c = search needs
@@ -25,18 +31,28 @@ wires-fault-requires c κs = search needs
 
 returns-2 : tie.Need-returns-2
 returns-2 c =
+    let l = c .before .before .before .before in
+    let t = now (l .before .before .args .text) in
+    let e = sym (l .line-formed .ensures) ∙ not-false _ (c .before .before .before .if1 .left) in
     let f = c .before .wires-fault in
     let v = c .before .before .byte-at in
-    count-refused (now (c .before .before .before .before .before .before .args .text)) (sym (c .before .before .before .before .line-formed .ensures) ∙ not-false _ (c .before .before .before .if1 .left)) (f .result) (v .result) (f .ensures) (v .ensures) (omega arith)
+    count-refused t e (f .result) (v .result) (f .ensures) (v .ensures) (omega arith)
 
 gates-fault-requires : tie.Need-gates-fault-requires
-gates-fault-requires c κs = omega (arith, one-long (now (c .before .before .before .before .before .before .args .text)) (sym (c .before .before .before .before .line-formed .ensures) ∙ not-false _ (c .before .before .before .if1 .left)))
+gates-fault-requires c κs =
+    let l = c .before .before .before .before in
+    let t = now (l .before .before .args .text) in
+    let e = sym (l .line-formed .ensures) ∙ not-false _ (c .before .before .before .if1 .left) in
+    omega (arith, one-long t e)
 
 returns-3 : tie.Need-returns-3
 returns-3 c =
+    let l = c .before .before .before .before .before in
+    let t = now (l .before .before .args .text) in
+    let e = sym (l .line-formed .ensures) ∙ not-false _ (c .before .before .before .before .if1 .left) in
     let f = c .before .before .wires-fault in
     let v = c .before .before .before .byte-at in
-    c .gates-fault .ensures ∙ count-passed (now (c .before .before .before .before .before .before .before .args .text)) (sym (c .before .before .before .before .before .line-formed .ensures) ∙ not-false _ (c .before .before .before .before .if1 .left)) (f .result) (v .result) (f .ensures) (v .ensures) (omega arith)
+    c .gates-fault .ensures ∙ count-passed t e (f .result) (v .result) (f .ensures) (v .ensures) (omega arith)
 
 pub text-fault-spec : {M : Type 1} → statement M
 text-fault-spec =
