@@ -1,22 +1,22 @@
 -- The first 28,676 bytes of a text decide what it is: the digits and newlines of 4,096 gate lines, and whether there is one byte more.
-use mathlib.Core.Bool.{Bool, _&&_, false, true}
+use mathlib.Core.Bool.{Bool, false, true}
 use mathlib.Core.List.{List, [], _∷_}
 use mathlib.Core.Path.{_∙_, _≡_, ap, ap₂, refl, sym}
 use Prim.Native.Nat.{_*_, _+_, _<_, _≤_, suc, zero, ℕ}
-use native.Mathlib.Decide.{decLe, decLt}
-use native.Mathlib.Nat.{add-zero, suc-add, zero-add}
+use native.Mathlib.Decide.{decLt}
+use native.Mathlib.Nat.{suc-add, zero-add}
 use native.Mathlib.Omega.{arith}
-use lib.ListN.{drop, getD, length, length-take, take}
+use lib.ListN.{drop, length, length-take, take}
 use lib.Seq.{getD-take, take-all, take-nil}
 use Rattle.circuit.specs.Faults.{refuse, wiresFault}
 use Rattle.circuit.specs.Limits.{maxGates}
 use Rattle.circuit.specs.declared.Reply.{Reply}
 use Rattle.circuit.specs.declared.Reply.the-variants.{Done, Refused}
 use Rattle.text.proofs.LineForms.{first-formed, starts}
-use Rattle.text.proofs.TextFaults.{by-count, done-few, done-next, faultFrom, gate-right, gate-wrong, gates-done, no-more, one-too-many, one-wrong, read-faulty}
+use Rattle.text.proofs.TextFaults.{by-count, done-few, done-next, faultFrom, gate-right, gate-wrong, gates-done, one-too-many, one-wrong, read-faulty}
 use Rattle.text.specs.Limits.{gateDigits, gateLineBytes, longestText, textBytes, wiresDigits, wiresLineBytes}
 use Rattle.text.specs.Lines.{byteAt, firstFormed, linesOf, pair}
-use Rattle.text.specs.Text.{linesFault, malformed, readText}
+use Rattle.text.specs.Text.{linesFault, readText}
 
 -- ---- a line by the first bytes
 

@@ -1,14 +1,12 @@
 -- Hex digits by cases: which bytes are digits, and that a digit and its number give each other back.
 use mathlib.Core.Bool.{Bool, false, false≢true, true}
-use mathlib.Core.List.{List, [], _∷_, _++_}
-use mathlib.Core.Path.{_∙_, _≡_, ap, refl, sym}
-use Prim.Native.Nat.{_%_, _*_, _+_, _-_, _/_, _<_, _≤_, ℕ}
+use mathlib.Core.Path.{_∙_, _≡_, sym}
+use Prim.Native.Nat.{_+_, _-_, _<_, _≤_, ℕ}
 use native.Mathlib.Decide.{decLe, decLt}
 use native.Mathlib.Omega.{arith}
 use lib.Dec.{eqb}
-use lib.ListN.{length}
 use borrow.Author.Tests.{le-leb, le-ltb, lt-leb, lt-ltb, ne-eqb}
-use Rattle.text.specs.Hex.{digit, hex2, hex4, isDigit, newline, valueOf}
+use Rattle.text.specs.Hex.{digit, isDigit, newline, valueOf}
 
 -- ---- which bytes are digits, and of what
 

@@ -5,6 +5,7 @@ pub mod Storing
 pub mod TextWays
 pub mod Deciding
 pub mod Writing
-pub mod RoundTrip
+pub mod WrittenReads
+pub mod ReadsWritten
 pub mod TextLaws
 pub mod TextExamples

@@ -1,7 +1,7 @@
 -- The first line of a text by its bytes: it has the form exactly if the text starts with the digits and a newline, and the other lines are then those
 -- of the rest.
 use mathlib.Core.Bool.{Bool, _&&_, and-false, cond, false, false≢true, true}
-use mathlib.Core.List.{List, [], _∷_, _++_}
+use mathlib.Core.List.{List, [], _∷_}
 use mathlib.Core.Path.{_∙_, _≡_, ap, refl, sym}
 use Prim.Native.Nat.{_+_, _-_, _<_, _≤_, suc, zero, ℕ}
 use native.Mathlib.Nat.{add-zero, sub-self, sub-zero}
@@ -12,7 +12,7 @@ use lib.ListN.{drop, getD, length, length-drop, take}
 use lib.Seq.{drop-cons, drop-drop}
 use Rattle.text.proofs.HexDigits.{not-newline}
 use Rattle.text.specs.Hex.{isDigit, newline}
-use Rattle.text.specs.Lines.{Line, areDigits, ended, firstFormed, formed, inFront, linesOf, longer, unended}
+use Rattle.text.specs.Lines.{Line, areDigits, ended, firstFormed, inFront, linesOf, longer, unended}
 
 -- k digits, then a newline
 unfoldable pub starts : ℕ → List ℕ → Bool

@@ -1,12 +1,12 @@
 -- Bytes stored in a row, and the loop that stores the gates of a text without a fault.
 use mathlib.Core.List.{List, [], _∷_, _++_}
 use mathlib.Core.Bool.{true}
-use mathlib.Core.Path.{_∙_, _≡_, ap, refl, sym}
-use Prim.Native.Nat.{_*_, _+_, _<_, _≤_, suc, zero, ℕ}
+use mathlib.Core.Path.{_∙_, _≡_, ap, sym}
+use Prim.Native.Nat.{_*_, _+_, _<_, _≤_, suc, ℕ}
 use native.Mathlib.Nat.{add-zero}
 use native.Mathlib.Numerals.{add-one, add-two}
 use native.Mathlib.Omega.{arith}
-use lib.ListN.{drop, drop-of-length-le, getD, length, length-append, set, take}
+use lib.ListN.{drop, drop-of-length-le, getD, length, set, take}
 use lib.Seq.{drop-cons, sets, sets-eq}
 use Rattle.circuit.specs.Limits.{gateBytes, maxGates, maxListBytes}
 use Rattle.text.proofs.LineForms.{formed-lines, formed-long}

@@ -1,7 +1,6 @@
 -- Texts that a misreading would take otherwise, and lines as they are printed, computed.
-use mathlib.Core.List.{List, [], _∷_, _++_}
+use mathlib.Core.List.{[], _∷_, _++_}
 use mathlib.Core.Path.{_≡_, refl}
-use Prim.Native.Nat.{ℕ}
 use Rattle.circuit.specs.Gate.{gate}
 use Rattle.text.specs.Hex.{digit, isDigit, valueOf}
 use Rattle.text.specs.Lines.{areDigits, linesOf, linesSpell, spelled}

@@ -1,5 +1,5 @@
 -- The faults of a text by cases: one turn, and each way out, of the loop over the gate lines, and of line one.
-use mathlib.Core.Bool.{Bool, cond, false, true}
+use mathlib.Core.Bool.{Bool, false, true}
 use mathlib.Core.List.{List, [], _∷_}
 use mathlib.Core.Logic.{_≢_}
 use mathlib.Core.Path.{_∙_, _≡_, ap, refl, sym}
@@ -17,7 +17,7 @@ use Rattle.circuit.specs.declared.Reply.the-variants.{Done, Refused}
 use Rattle.text.proofs.LineForms.{formed-lines, formed-long, some-line}
 use Rattle.text.specs.Limits.{gateDigits, gateLineBytes, wiresDigits, wiresLineBytes}
 use Rattle.text.specs.Lines.{Line, ended, firstFormed, formed, byteAt, linesOf, linesSpell, spelled}
-use Rattle.text.specs.Text.{circuit, faulty, gatesFault, linesFault, malformed, readText, wireCount}
+use Rattle.text.specs.Text.{circuit, faulty, gatesFault, linesFault, malformed, readText, wiresIn}
 
 -- ---- by lines
 
@@ -70,7 +70,7 @@ one-wrong t = go (linesOf t)
     go [] e = refl
     go (l ∷ ls) e = rw e
 
-two : (t : List ℕ) → wiresDigits < length t → wireCount (ended (take wiresDigits t)) ≡ byteAt t 0
+two : (t : List ℕ) → wiresDigits < length t → wiresIn (ended (take wiresDigits t)) ≡ byteAt t 0
 unfolding spelled
 two [] h = absurd (omega arith)
 two (a ∷ []) h = absurd (omega arith)

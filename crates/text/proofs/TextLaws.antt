@@ -1,33 +1,38 @@
 -- The page to read: which texts are circuits, which fault any other has, and what the promise of `read_text` means.
-use mathlib.Core.Bool.{Bool, cond, false, true}
+use mathlib.Core.Bool.{cond, false}
 use mathlib.Core.List.{List, [], _∷_, _++_}
+use mathlib.Core.Logic.{_⊎_, inl, inr}
 use mathlib.Core.Path.{_∙_, _≡_, ap, ap₂, refl, sym}
-use Prim.Native.Nat.{_%_, _*_, _+_, _/_, _<_, _≤_, suc, zero, ℕ}
+use Prim.Native.Nat.{_%_, _*_, _+_, _/_, _<_, _≤_, ℕ}
 use native.Mathlib.Decide.{decLt}
 use native.Mathlib.Nat.{zero-add}
 use native.Mathlib.Omega.{arith}
 use lib.Dec.{ltb}
-use lib.ListN.{drop, getD, length, length-append, take}
+use lib.ListN.{drop, length, length-append, take}
 use lib.Seq.{drop-append-seam, take-append-seam}
-use borrow.Author.Tests.{le-ltb, lt-ltb}
-use Rattle.circuit.specs.Faults.{lentOutput, listLength}
+use borrow.Author.Tests.{eq-eqb, le-ltb, lt-leb, lt-ltb, ne-eqb}
+use Rattle.circuit.specs.Faults.{lentOutput, listLength, wireCount, wiresFault}
 use Rattle.circuit.specs.Gate.{Gate, gate, gatesOf}
-use Rattle.circuit.specs.Limits.{gateBytes, maxGates, maxListBytes}
+use Rattle.circuit.specs.Limits.{gateBytes, maxGates, maxListBytes, maxWires}
 use Rattle.circuit.specs.declared.Reply.{Reply}
 use Rattle.circuit.specs.declared.Reply.the-variants.{Done as Judged, Refused as Found}
 use Rattle.text.proofs.Deciding.{text-decided}
-use Rattle.text.proofs.HexDigits.{value-digit}
-use Rattle.text.proofs.RoundTrip.{circuit-pass, length-gates, never, pair-hex, pair-low, reads-written, written-reads}
-use Rattle.text.proofs.TextFaults.{Small, faults-small, gate-wrong, one-too-many, read-circuit, read-faulty}
+use Rattle.text.proofs.LineForms.{first-formed}
+use Rattle.text.proofs.ReadsWritten.{never, reads-written}
+use Rattle.text.proofs.TextFaults.{Small, count-refused, faults-small, gate-wrong, one-too-many, one-wrong, read-circuit, read-faulty}
+use Rattle.text.proofs.WrittenReads.{circuit-pass, length-gates, pair-hex, pair-low, wires-starts, written-reads}
 use Rattle.text.specs.Entry.{ReadText, gatesAfter, readInto, replyOf}
-use Rattle.text.specs.Hex.{digit, hex2, hex4}
-use Rattle.text.specs.Limits.{countsLineBytes, gateDigits, gateLineBytes, maxWritten, refusedLineBytes, replyBytes, textBytes, wiresLineBytes}
+use Rattle.text.specs.Hex.{hex2, hex4}
+use Rattle.text.specs.Limits.{countsLineBytes, gateDigits, gateLineBytes, maxWritten, refusedLineBytes, replyBytes, textBytes, wiresDigits, wiresLineBytes}
 use Rattle.text.specs.Lines.{firstFormed, linesOf, spelled}
-use Rattle.text.specs.Placed.{placed}
 use Rattle.text.specs.Text.{Sayable, Text, circuit, faulty, linesFault, malformed, readText}
 use Rattle.text.specs.Written.{countsLine, gateLine, gateLines, refusedLine, textOf, wiresLine}
 use Rattle.text.specs.declared.TextReply.{TextReply}
 use Rattle.text.specs.declared.TextReply.the-variants.{Done, Refused}
+
+wires-wrong : (n : ℕ) → (n ≡ 0) ⊎ (maxWires < n) → wiresFault n ≡ wireCount
+wires-wrong n (inl e) = simp (eq-eqb n 0 e)
+wires-wrong n (inr h) = simp (ne-eqb n 0 (λ e. omega arith), lt-leb n maxWires h)
 
 -- ---- which texts are circuits
 
@@ -38,6 +43,18 @@ circuit-reads-back = written-reads
 -- and a text that reads as a circuit is that circuit's lines: nothing faulty is accepted
 pub accepted-is-written : (t : List ℕ) (n : ℕ) (bytes : List ℕ) → readText t ≡ circuit n bytes → Sayable n bytes × (t ≡ textOf n bytes)
 accepted-is-written = reads-written
+
+-- ---- the first fault, in line one
+
+-- its form is judged first; an empty text has no line one
+pub line-one-malformed : (t : List ℕ) → firstFormed wiresDigits (linesOf t) ≡ false → readText t ≡ faulty malformed 1
+line-one-malformed t e = read-faulty t malformed 1 (one-wrong t e)
+
+-- then the count, whatever comes after line one
+pub count-wrong : (n : ℕ) (rest : List ℕ) → n < 256 → (n ≡ 0) ⊎ (maxWires < n) → readText (wiresLine n ++ rest) ≡ faulty wireCount 0
+count-wrong n rest h w =
+    let e = sym (first-formed wiresDigits (wiresLine n ++ rest)) ∙ wires-starts n rest in
+    read-faulty (wiresLine n ++ rest) wireCount 0 (sym (count-refused (wiresLine n ++ rest) e wireCount n (sym (wires-wrong n w)) (sym (pair-hex n h)) (λ z. omega arith)))
 
 -- ---- the first fault, after the lines of a circuit
 
@@ -98,14 +115,14 @@ refusal-leaves t gates gates′ number place c = go (readInto (length gates) t) 
     go (faulty f p) e l = l
 
 -- the circuit that was read: n wires, and the gates' bytes in the first 3·m of those lent, the rest being as it was
-pub record Read (t gates gates′ : List ℕ) (n m : ℕ) : Type 0 where
+pub record CircuitRead (t gates gates′ : List ℕ) (n m : ℕ) : Type 0 where
   pub says : readText t ≡ circuit n (take (gateBytes * m) gates′)
   pub sayable : Sayable n (take (gateBytes * m) gates′)
   pub rest : drop (gateBytes * m) gates′ ≡ drop (gateBytes * m) gates
   pub few : m ≤ maxGates
   pub long : length (take (gateBytes * m) gates′) ≡ gateBytes * m
 
-pub done-reads : (t gates gates′ : List ℕ) (n m : ℕ) → ReadText t gates gates′ (Done n m) → Read t gates gates′ n m
+pub done-reads : (t gates gates′ : List ℕ) (n m : ℕ) → ReadText t gates gates′ (Done n m) → CircuitRead t gates gates′ n m
 done-reads t gates gates′ n m c = go (decLt (length gates) maxListBytes)
   where
     text-said : maxListBytes ≤ length gates → readInto (length gates) t ≡ readText t
@@ -114,7 +131,7 @@ done-reads t gates gates′ n m c = go (decLt (length gates) maxListBytes)
     lent-said : length gates < maxListBytes → readInto (length gates) t ≡ faulty lentOutput 0
     lent-said h = simp (lt-ltb (length gates) maxListBytes h)
 
-    of-text : (x : Text) → readText t ≡ x → Done n m ≡ replyOf x → gates′ ≡ gatesAfter x gates → Read t gates gates′ n m
+    of-text : (x : Text) → readText t ≡ x → Done n m ≡ replyOf x → gates′ ≡ gatesAfter x gates → CircuitRead t gates gates′ n m
     of-text (faulty f p) e r l = absurd (refused-read f p n m (sym r))
     of-text (circuit k bytes) e r l =
         let s = reads-written t k bytes e .0 in
@@ -130,7 +147,7 @@ done-reads t gates gates′ n m c = go (decLt (length gates) maxListBytes)
           long = ap length front ∙ sym d;
         }
 
-    go : Dec (length gates < maxListBytes) → Read t gates gates′ n m
+    go : Dec (length gates < maxListBytes) → CircuitRead t gates gates′ n m
     go (yes h) = absurd (refused-read lentOutput 0 n m (sym (c .reply ∙ ap replyOf (lent-said h))))
     go (no h) = of-text (readText t) refl (c .reply ∙ ap replyOf (text-said (omega arith))) (c .gates-left ∙ ap (λ (x : Text). gatesAfter x gates) (text-said (omega arith)))
 

@@ -1,9 +1,9 @@
 -- One law for each way out of the entry `read_text`: the tests that led there give the reply, and the lent gates are as it says.
 use mathlib.Core.List.{List}
-use mathlib.Core.Path.{_∙_, _≡_, ap, refl, sym}
+use mathlib.Core.Path.{_∙_, _≡_, sym}
 use Prim.Native.Nat.{_+_, _/_, _<_, _≤_, ℕ}
 use native.Mathlib.Omega.{arith}
-use lib.ListN.{drop, length}
+use lib.ListN.{length}
 use borrow.Author.Tests.{le-ltb, lt-ltb}
 use Rattle.circuit.specs.Faults.{lentOutput}
 use Rattle.circuit.specs.Limits.{gateBytes, maxListBytes}
@@ -12,11 +12,10 @@ use Rattle.circuit.specs.declared.Reply.the-variants.{Done, Refused}
 use Rattle.text.proofs.Storing.{bytesFrom}
 use Rattle.text.proofs.TextFaults.{faultFrom, gates-done, one-formed-done, one-long, read-circuit, read-faulty}
 use Rattle.text.specs.Entry.{ReadText, readInto}
-use Rattle.text.specs.Limits.{wiresDigits, wiresLineBytes}
+use Rattle.text.specs.Limits.{wiresLineBytes}
 use Rattle.text.specs.Lines.{byteAt, linesOf}
-use Rattle.text.specs.Placed.{Stores, placed}
-use Rattle.text.specs.Text.{Text, circuit, linesFault, readText}
-use Rattle.text.specs.declared.TextReply.{TextReply}
+use Rattle.text.specs.Placed.{Stores}
+use Rattle.text.specs.Text.{Text, linesFault, readText}
 use Rattle.text.specs.declared.TextReply.the-variants.{Done as ReadDone, Refused as ReadRefused}
 
 module _ (t g : List ℕ) where

@@ -33,7 +33,7 @@ countsLineBytes = 4 * 5
 abbrev pub refusedLineBytes : ℕ
 refusedLineBytes = 8 + 2 + 1 + 4 + 1
 
--- at most 2,112 gates are written: a turn round each parity, and the rows
+-- the most gates that are written, 2,112
 abbrev pub maxWritten : ℕ
 maxWritten = maxWires * 2 ^ maxWires + maxWires * maxWires
 

@@ -17,8 +17,8 @@ abbrev pub malformed : ℕ
 malformed = 9
 
 -- n, of line one
-abbrev pub wireCount : Line → ℕ
-wireCount l = getD (lineSpells l) 0 0
+abbrev pub wiresIn : Line → ℕ
+wiresIn l = getD (lineSpells l) 0 0
 
 -- the first fault of the gate lines, the first of which is gate line i, counted from 0: line i + 2 of the text.
 -- Gate line 4,097 gives 2 whatever it holds
@@ -32,7 +32,7 @@ gatesFault i (l ∷ ls) =
 -- the first fault of a text's lines: of line one its form, then the count; then the gate lines
 abbrev pub linesFault : List Line → Reply
 linesFault [] = Refused malformed 1
-linesFault (l ∷ ls) = cond (formed wiresDigits l) (refuse (wiresFault (wireCount l)) 0 (gatesFault 0 ls)) (Refused malformed 1)
+linesFault (l ∷ ls) = cond (formed wiresDigits l) (refuse (wiresFault (wiresIn l)) 0 (gatesFault 0 ls)) (Refused malformed 1)
 
 -- a circuit: the wire count and the bytes of the gates; or the number and place of the first fault
 pub data Text : Type 0 where
@@ -46,7 +46,7 @@ unlessRefused (Refused number place) t = faulty number place
 -- what lines without a fault say
 abbrev pub linesSay : List Line → Text
 linesSay [] = circuit 0 []
-linesSay (l ∷ ls) = circuit (wireCount l) (linesSpell ls)
+linesSay (l ∷ ls) = circuit (wiresIn l) (linesSpell ls)
 
 unfoldable pub readText : List ℕ → Text
 readText t = unlessRefused (linesFault (linesOf t)) (linesSay (linesOf t))
