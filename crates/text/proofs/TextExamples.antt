@@ -3,6 +3,7 @@ use mathlib.Core.List.{[], _∷_, _++_}
 use mathlib.Core.Path.{_≡_, refl}
 use Rattle.circuit.specs.Gate.{gate}
 use Rattle.text.specs.Hex.{digit, isDigit, valueOf}
+use Rattle.text.specs.Limits.{maxWritten, replyBytes, textBytes}
 use Rattle.text.specs.Lines.{areDigits, linesOf, linesSpell, spelled}
 use Rattle.text.specs.Text.{circuit, faulty, gatesFault, readText}
 use Rattle.text.specs.Written.{countsLine, gateLines, refusedLine, wiresLine}
@@ -88,3 +89,14 @@ printed = refl
 printed-fault : refusedLine 9 4097 ≡ 114 ∷ 101 ∷ 102 ∷ 117 ∷ 115 ∷ 101 ∷ 100 ∷ 32 ∷ 48 ∷ 57 ∷ 32 ∷ 49 ∷ 48 ∷ 48 ∷ 49 ∷ 10 ∷ []
 unfolding digit
 printed-fault = refl
+
+-- ---- the limits
+
+text-limit : textBytes ≡ 28676
+text-limit = refl
+
+written-limit : maxWritten ≡ 2112
+written-limit = refl
+
+reply-limit : replyBytes ≡ 14807
+reply-limit = refl

@@ -21,6 +21,7 @@ abbrev pub inFront : ℕ → List Line → List Line
 inFront b [] = unended (b ∷ []) ∷ []
 inFront b (l ∷ ls) = longer b l ∷ ls
 
+-- the lines of a text, from its last byte to its first
 unfoldable pub linesOf : List ℕ → List Line
 linesOf [] = []
 linesOf (b ∷ bs) = cond (eqb b newline) (ended [] ∷ linesOf bs) (inFront b (linesOf bs))
@@ -37,22 +38,9 @@ abbrev pub formed : ℕ → Line → Bool
 formed k (ended bs) = areDigits k bs
 formed k (unended bs) = false
 
--- the first line has that form; where there is no line, none has
-abbrev pub firstFormed : ℕ → List Line → Bool
-firstFormed k [] = false
-firstFormed k (l ∷ ls) = formed k l
-
 -- the byte that two digits spell
 abbrev pub pair : ℕ → ℕ → ℕ
 pair a b = 16 * valueOf a + valueOf b
-
--- the byte that the digits at places p and p + 1 spell
-abbrev pub byteAt : List ℕ → ℕ → ℕ
-byteAt t p = pair (getD t p 0) (getD t (p + 1) 0)
-
--- the three bytes of the gate whose digits start at place p
-abbrev pub gateSpelledAt : List ℕ → ℕ → List ℕ
-gateSpelledAt t p = byteAt t p ∷ byteAt t (p + 2) ∷ byteAt t (p + 4) ∷ []
 
 -- the bytes that digits spell, two digits each
 unfoldable pub spelled : List ℕ → List ℕ
@@ -68,3 +56,18 @@ lineSpells (unended bs) = spelled bs
 unfoldable pub linesSpell : List Line → List ℕ
 linesSpell [] = []
 linesSpell (l ∷ ls) = lineSpells l ++ linesSpell ls
+
+-- ---- the same by places, as a loop over the bytes meets it
+
+-- the first line has that form; where there is no line, none has
+abbrev pub firstFormed : ℕ → List Line → Bool
+firstFormed k [] = false
+firstFormed k (l ∷ ls) = formed k l
+
+-- the byte that the digits at places p and p + 1 spell
+abbrev pub byteAt : List ℕ → ℕ → ℕ
+byteAt t p = pair (getD t p 0) (getD t (p + 1) 0)
+
+-- the three bytes of the gate whose digits start at place p
+abbrev pub gateSpelledAt : List ℕ → ℕ → List ℕ
+gateSpelledAt t p = byteAt t p ∷ byteAt t (p + 2) ∷ byteAt t (p + 4) ∷ []

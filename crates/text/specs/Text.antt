@@ -48,6 +48,7 @@ abbrev pub linesSay : List Line → Text
 linesSay [] = circuit 0 []
 linesSay (l ∷ ls) = circuit (wiresIn l) (linesSpell ls)
 
+-- what a text is
 unfoldable pub readText : List ℕ → Text
 readText t = unlessRefused (linesFault (linesOf t)) (linesSay (linesOf t))
 
