@@ -51,12 +51,14 @@ gates-decided zero i [] e = none-decided 0 i
 gates-decided (suc r) i [] e = none-decided (suc r) i
 gates-decided zero i (b ∷ t) e = one-too-many (take (enough 0) (b ∷ t)) 0 i (omega arith) (omega arith) ∙ sym (one-too-many (b ∷ t) 0 i (omega arith) (omega arith))
 gates-decided (suc r) i (b ∷ t) e =
-    go (firstFormed gateDigits (linesOf (b ∷ t))) refl (formed-take gateDigits (enough (suc r)) (b ∷ t) (omega arith)) (λ (u : List ℕ). gates-decided r (i + 1) u (omega arith))
+    go (firstFormed gateDigits (linesOf (b ∷ t))) refl (formed-take gateDigits (enough (suc r)) (b ∷ t) (omega arith))
+    (λ (u : List ℕ). gates-decided r (i + 1) u (omega arith))
   where
     some : 0 < length (take (enough (suc r)) (b ∷ t))
     some = taken-some (suc r) b t
 
-    go : (f : Bool) → firstFormed gateDigits (linesOf (b ∷ t)) ≡ f → firstFormed gateDigits (linesOf (take (enough (suc r)) (b ∷ t))) ≡ firstFormed gateDigits (linesOf (b ∷ t))
+    go : (f : Bool) → firstFormed gateDigits (linesOf (b ∷ t)) ≡ f
+        → firstFormed gateDigits (linesOf (take (enough (suc r)) (b ∷ t))) ≡ firstFormed gateDigits (linesOf (b ∷ t))
         → ((u : List ℕ) → faultFrom (take (enough r) u) 0 (i + 1) ≡ faultFrom u 0 (i + 1))
         → faultFrom (take (enough (suc r)) (b ∷ t)) 0 i ≡ faultFrom (b ∷ t) 0 i
     go false f h later =
@@ -94,9 +96,11 @@ done-short zero i at t e d = go (decLt at (length t))
     go : Dec (at < length t) → length t ≤ at + gateLineBytes * 0
     go (yes h) = absurd (omega (arith, done-few t at i h d))
     go (no h) = omega arith
-done-short (suc r) i at t e d = go (decLt at (length t)) (λ (f : faultFrom t (at + gateLineBytes) (i + 1) ≡ Done). done-short r (i + 1) (at + gateLineBytes) t (omega arith) f)
+done-short (suc r) i at t e d =
+    go (decLt at (length t)) (λ (f : faultFrom t (at + gateLineBytes) (i + 1) ≡ Done). done-short r (i + 1) (at + gateLineBytes) t (omega arith) f)
   where
-    go : Dec (at < length t) → (faultFrom t (at + gateLineBytes) (i + 1) ≡ Done → length t ≤ at + gateLineBytes + gateLineBytes * r) → length t ≤ at + gateLineBytes * suc r
+    go : Dec (at < length t) → (faultFrom t (at + gateLineBytes) (i + 1) ≡ Done → length t ≤ at + gateLineBytes + gateLineBytes * r)
+        → length t ≤ at + gateLineBytes * suc r
     go (yes h) later = omega (arith, later (done-next t at i h d))
     go (no h) later = omega arith
 

@@ -112,7 +112,8 @@ one-gate r t g s =
     let a = g .a in
     let b = g .b in
     let more = linesSpell (linesOf (g .rest)) in
-    let e : linesSpell (linesOf t) ≡ kind ∷ a ∷ b ∷ more = ap (λ (l : List ℕ). linesSpell (linesOf l)) (g .is) ∙ line-spells kind a b (g .rest) (g .small .0) (g .small .1) (g .small .2) in
+    let e : linesSpell (linesOf t) ≡ kind ∷ a ∷ b ∷ more =
+    ap (λ (l : List ℕ). linesSpell (linesOf l)) (g .is) ∙ line-spells kind a b (g .rest) (g .small .0) (g .small .1) (g .small .2) in
     rw e
     (record {
       written = g .is ∙ ap (λ (l : List ℕ). gateLine (gate kind a b) ++ l) (s .written);

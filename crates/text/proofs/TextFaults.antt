@@ -163,7 +163,8 @@ same-fault f p number place e h =
 gates-small : (ls : List Line) (i number place : ℕ) → gatesFault i ls ≡ Refused number place → Small number place
 unfolding gatesFault
 gates-small [] i number place e = absurd (not-done number place (sym e))
-gates-small (l ∷ ls) i number place e = go (decLt i maxGates) (formed gateDigits l) refl (λ (f : gatesFault (suc i) ls ≡ Refused number place). gates-small ls (suc i) number place f)
+gates-small (l ∷ ls) i number place e =
+    go (decLt i maxGates) (formed gateDigits l) refl (λ (f : gatesFault (suc i) ls ≡ Refused number place). gates-small ls (suc i) number place f)
   where
     go : Dec (i < maxGates) → (b : Bool) → formed gateDigits l ≡ b → (gatesFault (suc i) ls ≡ Refused number place → Small number place) → Small number place
     go (no h) b f later = same-fault listLength 0 number place (sym (many i l ls (omega arith)) ∙ e) (omega arith)
@@ -178,7 +179,8 @@ wires-small n = go (ℕ-discrete n 0) (decLe n maxWires)
     go (no e) (yes h) = omega (arith, wires-well n (omega arith) h)
     go (no e) (no h) = simp (ne-eqb n 0 e, lt-leb n maxWires (omega arith)) (omega arith)
 
-refuse-small : (f : ℕ) (rest : Reply) (number place : ℕ) → f ≤ 1 → refuse f 0 rest ≡ Refused number place → (rest ≡ Refused number place → Small number place) → Small number place
+refuse-small : (f : ℕ) (rest : Reply) (number place : ℕ) → f ≤ 1 → refuse f 0 rest ≡ Refused number place
+    → (rest ≡ Refused number place → Small number place) → Small number place
 refuse-small zero rest number place h e later = later e
 refuse-small (suc f) rest number place h e later = same-fault (suc f) 0 number place e (omega arith)
 

@@ -54,7 +54,8 @@ line-one-malformed t e = read-faulty t malformed 1 (one-wrong t e)
 pub count-wrong : (n : ℕ) (rest : List ℕ) → n < 256 → (n ≡ 0) ⊎ (maxWires < n) → readText (wiresLine n ++ rest) ≡ faulty wireCount 0
 count-wrong n rest h w =
     let e = sym (first-formed wiresDigits (wiresLine n ++ rest)) ∙ wires-starts n rest in
-    read-faulty (wiresLine n ++ rest) wireCount 0 (sym (count-refused (wiresLine n ++ rest) e wireCount n (sym (wires-wrong n w)) (sym (pair-hex n h)) (λ z. omega arith)))
+    read-faulty (wiresLine n ++ rest) wireCount 0
+    (sym (count-refused (wiresLine n ++ rest) e wireCount n (sym (wires-wrong n w)) (sym (pair-hex n h)) (λ z. omega arith)))
 
 -- ---- the first fault, after the lines of a circuit
 
@@ -98,7 +99,8 @@ first-bytes-decide t = sym (text-decided t)
 -- so a call with these bytes alone replies and leaves what one with the whole text does
 pub call-decided : (t gates gates′ : List ℕ) (r : TextReply) → ReadText (take textBytes t) gates gates′ r → ReadText t gates gates′ r
 call-decided t gates gates′ r c =
-    let same : readInto (length gates) (take textBytes t) ≡ readInto (length gates) t = ap (λ (x : Text). cond (ltb (length gates) maxListBytes) (faulty lentOutput 0) x) (text-decided t) in
+    let same : readInto (length gates) (take textBytes t) ≡ readInto (length gates) t =
+    ap (λ (x : Text). cond (ltb (length gates) maxListBytes) (faulty lentOutput 0) x) (text-decided t) in
     record { reply = c .reply ∙ ap replyOf same; gates-left = c .gates-left ∙ ap (λ (x : Text). gatesAfter x gates) same }
 
 -- ---- what the promise of `read_text` means
@@ -149,7 +151,9 @@ done-reads t gates gates′ n m c = go (decLt (length gates) maxListBytes)
 
     go : Dec (length gates < maxListBytes) → CircuitRead t gates gates′ n m
     go (yes h) = absurd (refused-read lentOutput 0 n m (sym (c .reply ∙ ap replyOf (lent-said h))))
-    go (no h) = of-text (readText t) refl (c .reply ∙ ap replyOf (text-said (omega arith))) (c .gates-left ∙ ap (λ (x : Text). gatesAfter x gates) (text-said (omega arith)))
+    go (no h) =
+        of-text (readText t) refl (c .reply ∙ ap replyOf (text-said (omega arith)))
+        (c .gates-left ∙ ap (λ (x : Text). gatesAfter x gates) (text-said (omega arith)))
 
 -- ---- the lines written
 

@@ -70,7 +70,8 @@ module _ (gates : List ℕ) (i : ℕ) where
   unfolding gateLines
   lines-step h = rw (gates-step gates i h)
 
-  pub gate-put : (was left all : List ℕ) (at next : ℕ) → gateBytes * i + 2 < length gates → Writes was at (gateLine (byteGate gates i)) left next → at + gateLineBytes ≤ length was
+  pub gate-put : (was left all : List ℕ) (at next : ℕ) → gateBytes * i + 2 < length gates → Writes was at (gateLine (byteGate gates i)) left next
+      → at + gateLineBytes ≤ length was
       → sets was at (linesFrom gates i) ≡ all → sets left next (linesFrom gates (i + 1)) ≡ all
   gate-put was left all at next h w fits e =
       writes-before was at (gateLine (byteGate gates i)) left next w fits (linesFrom gates (i + 1)) ∙ ap (sets was at) (sym (lines-step h)) ∙ e

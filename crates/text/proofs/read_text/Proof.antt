@@ -55,7 +55,8 @@ returns-3 c =
     let found = f .text-fault in
     let v = c .before .before .before .before .byte-at in
     let s = c .before .before .store-gates in
-    text-read (now (a .text)) (now (a .gates)) (omega arith) (found .result) (found .ensures) (c .before .before .before .before .before .enum-told .given .1) (v .result) (s .result) _ (v .ensures) (s .ensures)
+    text-read (now (a .text)) (now (a .gates)) (omega arith) (found .result) (found .ensures)
+    (c .before .before .before .before .before .enum-told .given .1) (v .result) (s .result) _ (v .ensures) (s .ensures)
 
 pub read-text-spec : {M : Type 1} → statement M
 read-text-spec =

@@ -26,7 +26,8 @@ returns c =
     let y = z .before .before .before .before in
     let x = y .before .before .before .before in
     let w = x .before .before .before .before in
-    writes-then (writes-then (writes-then (w .put-number .ensures) (x .put-number2 .ensures) (omega arith)) (y .put-number3 .ensures) (omega arith)) (z .put-number4 .ensures) (omega arith)
+    let first = writes-then (w .put-number .ensures) (x .put-number2 .ensures) (omega arith) in
+    writes-then (writes-then first (y .put-number3 .ensures) (omega arith)) (z .put-number4 .ensures) (omega arith)
 
 pub put-counts-spec : {M : Type 1} → statement M
 put-counts-spec =

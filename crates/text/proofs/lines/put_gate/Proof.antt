@@ -26,7 +26,8 @@ returns c =
     let y = z .before .before .before .before in
     let x = y .before .before .before .before in
     let w = x .before .before .before .before in
-    writes-then (writes-then (writes-then (w .put-two .ensures) (x .put-two2 .ensures) (omega arith)) (y .put-two3 .ensures) (omega arith)) (z .put-byte .ensures) (omega arith)
+    let first = writes-then (w .put-two .ensures) (x .put-two2 .ensures) (omega arith) in
+    writes-then (writes-then first (y .put-two3 .ensures) (omega arith)) (z .put-byte .ensures) (omega arith)
 
 pub put-gate-spec : {M : Type 1} → statement M
 put-gate-spec =

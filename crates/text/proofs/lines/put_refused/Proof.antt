@@ -29,7 +29,8 @@ returns c =
     let y = z .before .before .before .before in
     let x = y .before .before .before .before in
     let w = x .before .before .before .before in
-    writes-then (writes-then (writes-then (w .put .ensures) (x .put-two .ensures) (omega arith)) (y .put-byte .ensures) (omega arith)) (z .put-number .ensures) (omega arith)
+    let first = writes-then (w .put .ensures) (x .put-two .ensures) (omega arith) in
+    writes-then (writes-then first (y .put-byte .ensures) (omega arith)) (z .put-number .ensures) (omega arith)
 
 pub put-refused-spec : {M : Type 1} → statement M
 put-refused-spec =

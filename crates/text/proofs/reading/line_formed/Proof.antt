@@ -39,7 +39,8 @@ returns-2 : tie.Need-returns-2 Inv-loop μ-loop
 returns-2 c =
     let at = c .before .before .before .before in
     let a = at .before .before .before .args in
-    digit-wrong (now (a .text)) (a .at) (at .loop .j) (omega arith) (a .digits) (omega arith) (sym (c .before .is-digit .ensures) ∙ not-true _ (c .if2 .taken)) ∙ at .loop .inv .2
+    let e = sym (c .before .is-digit .ensures) ∙ not-true _ (c .if2 .taken) in
+    digit-wrong (now (a .text)) (a .at) (at .loop .j) (omega arith) (a .digits) (omega arith) e ∙ at .loop .inv .2
 
 add-j : tie.Need-add-j Inv-loop μ-loop
 add-j c = search needs
@@ -50,10 +51,11 @@ loop-less c = search needs
 loop-again : tie.Need-loop-again Inv-loop μ-loop
 loop-again c =
     let at = c .before .before .before .before in
-    let a = at .before .before .before .args in (
+    let a = at .before .before .before .args in
+    let e = sym (c .before .is-digit .ensures) ∙ not-false _ (c .if2 .left) in (
       search needs,
       search needs,
-      digit-right (now (a .text)) (a .at) (at .loop .j) (omega arith) (a .digits) (omega arith) (sym (c .before .is-digit .ensures) ∙ not-false _ (c .if2 .left)) ∙ at .loop .inv .2,
+      digit-right (now (a .text)) (a .at) (at .loop .j) (omega arith) (a .digits) (omega arith) e ∙ at .loop .inv .2,
     )
 
 add-result : tie.Need-add-result Inv-loop μ-loop

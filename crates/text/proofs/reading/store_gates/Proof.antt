@@ -72,7 +72,8 @@ returns c =
     let at = c .before in
     let a = at .before .before .before .args in
     let t = now (a .text) in
-    all-stored t (at .loop .at) (omega arith) (at .loop .i) (now (a .gates)) (at .loop .gates) (bytesFrom t wiresLineBytes) (at .loop .inv .1) (at .before .before .before .pre .0) (at .loop .inv .3) (at .loop .inv .4)
+    all-stored t (at .loop .at) (omega arith) (at .loop .i) (now (a .gates)) (at .loop .gates) (bytesFrom t wiresLineBytes)
+    (at .loop .inv .1) (at .before .before .before .pre .0) (at .loop .inv .3) (at .loop .inv .4)
 
 pub store-gates-spec : {M : Type 1} → statement M
 store-gates-spec =
