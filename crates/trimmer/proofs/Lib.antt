@@ -1,0 +1,3 @@
+pub mod Replaying
+pub mod Logging
+pub mod Whole
