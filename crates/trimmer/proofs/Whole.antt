@@ -28,7 +28,7 @@ use Rattle.phase.proofs.Laws.{new-weights-odd-set, new-weights-same-phases, odd
 use Rattle.phase.proofs.Sums.{C}
 use Rattle.phase.specs.NewWeights.{newWeights}
 use Rattle.phase.specs.Signature.{SameSignature}
-use Rattle.trimmer.proofs.Logging.{logged-length}
+use Rattle.trimmer.proofs.LogWritten.{logged-length}
 use Rattle.trimmer.proofs.Replaying.{Left, replays-leave, signature-then}
 use Rattle.trimmer.specs.Trimmed.{Trimmed, oddSetOf, weightsOf}
 use Rattle.trimmer.specs.declared.Counts.{Counts}

@@ -2,6 +2,9 @@
 // Public entry: `trim`. Its promise is the record TrimList of specs/Entry; for an accepted circuit it is demand 3 whole, the record
 // Trimmed of specs/Trimmed.
 
+pub mod counting;
+pub mod logging;
+
 // The counts of a trim: T and T dagger gates of C, the size of its odd set, T and T dagger gates of D, the moves in the log, the gates
 // of D.
 pub struct Counts {
