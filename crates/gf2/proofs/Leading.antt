@@ -61,3 +61,9 @@ bit-lowest (suc k) p ne l = go (p % 2) refl (omega arith) (bit-lowest k (p / 2))
     go zero e h r = bit-suc p (trailingZeros k (p / 2)) ∙ r (omega arith) (omega arith)
     go (suc zero) e h r = bit-zero p ∙ e
     go (suc (suc c)) e h r = absurd (omega arith)
+
+-- of n bits, counted in a word of w
+pub lowest : (w n p : ℕ) → n ≤ w → p ≢ 0 → p < 2 ^ n → (trailingZeros w p < n) × (bit p (trailingZeros w p) ≡ 1)
+lowest w n p h ne l =
+    let e : bit p (trailingZeros w p) ≡ 1 = bit-lowest w p ne (lt-of-lt-of-le l (pow-mono h)) in
+    (bit-inside n p (trailingZeros w p) l e, e)

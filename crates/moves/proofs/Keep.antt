@@ -23,9 +23,10 @@ use Rattle.phase.specs.Signature.{SameSignature}
 use Rattle.moves.proofs.Change.{Fits, mark-carryOut, sum-carryOut}
 use Rattle.moves.proofs.Even.{triples-all}
 use Rattle.moves.proofs.Flips.{carryOut-bits, carryOut-length, clear-carryOut}
-use Rattle.moves.proofs.Sets.{occ, occ-in}
+use Rattle.moves.proofs.Sets.{occ, occ-out}
 use Rattle.moves.specs.CarryOut.{carryOut}
 use Rattle.moves.specs.Move.{Legal, Member, Separates}
+use Rattle.moves.specs.Sets.{In}
 
 pub member-lt : (size n : ℕ) (marks : List ℕ) → SoundMarks size n marks → (p : ℕ) → Member marks p → p < 2 ^ n
 member-lt size n marks s p m = go (decLt p (2 ^ n))
@@ -81,6 +82,12 @@ odd-third w i j k =
 pub odd-set-signature : (n : ℕ) (w : List ℕ) → SameSignature n (oddSet w) w
 odd-set-signature n w = same-signature n (oddSet w) w (λ i j k li lj lk. odd-third w i j k)
 
+-- a z that separates members is below 2 ^ n
+pub separated-lt : (size n : ℕ) (marks : List ℕ) → SoundMarks size n marks → (z : ℕ) (Y : List ℕ) → ((y : ℕ) → In y Y → Member marks y) → Separates marks z Y → z < 2 ^ n
+separated-lt size n marks sound z Y marked s =
+    rw (s .z-is)
+    (xor-lt n (s .a) (s .b) (member-lt size n marks sound (s .a) (marked (s .a) (s .a-in))) (member-lt size n marks sound (s .b) (s .b-member)))
+
 -- one legal move of sound marks
 module _ (size n most : ℕ) (room : 2 ^ n ≤ size) (marks : List ℕ) (sound : SoundMarks size n marks) (z : ℕ) (Y : List ℕ) (legal : Legal most n marks z Y) where
   pub y-lt : Below (2 ^ n) Y
@@ -90,9 +97,7 @@ module _ (size n most : ℕ) (room : 2 ^ n ≤ size) (marks : List ℕ) (sound :
   a-member = legal .marked (legal .separates .a) (legal .separates .a-in)
 
   pub z-lt : z < 2 ^ n
-  z-lt =
-      let s : Separates marks z Y = legal .separates in
-      rw (s .z-is) (xor-lt n (s .a) (s .b) (member-lt size n marks sound (s .a) a-member) (member-lt size n marks sound (s .b) (s .b-member)))
+  z-lt = separated-lt size n marks sound z Y (legal .marked) (legal .separates)
 
   pub move-fits : Fits marks z Y
   move-fits =
@@ -119,11 +124,7 @@ module _ (size n most : ℕ) (room : 2 ^ n ≤ size) (marks : List ℕ) (sound :
 
   -- from 2 ^ n up nothing is touched
   occ-high : (p : ℕ) → 2 ^ n ≤ p → occ p Y ≡ 0
-  occ-high p h = go (occ p Y) refl
-    where
-      go : (o : ℕ) → occ p Y ≡ o → o ≡ 0
-      go zero e = refl
-      go (suc o) e = let t = occ-in p Y (omega arith) in absurd (omega (arith, y-lt (t .0) (t .1), t .2))
+  occ-high p h = occ-out p Y (λ t. omega (arith, y-lt (t .0) (t .1), t .2))
 
   shift-high : (p : ℕ) → 2 ^ n ≤ p → 2 ^ n ≤ bitXor p z
   shift-high p h = go (decLt (bitXor p z) (2 ^ n))

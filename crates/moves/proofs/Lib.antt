@@ -6,3 +6,11 @@ pub mod Keep
 pub mod Shrink
 pub mod Product
 pub mod Bound
+pub mod Kappa
+pub mod Pair
+pub mod Spell
+pub mod Finder
+pub mod Wires
+pub mod Log
+pub mod Replay
+pub mod Decide
