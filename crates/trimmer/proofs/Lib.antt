@@ -1,4 +1,2 @@
-pub mod Replaying
-pub mod LogWritten
 pub mod Whole
 pub mod Counted

@@ -1,12 +1,11 @@
 -- Demand 3 from its parts: reading is running, moves keep the signature and afford themselves, none is left, the new weights have the phases of C,
 -- and the list written reads back.
 use mathlib.Core.List.{List}
-use mathlib.Core.Option.{none}
 use mathlib.Core.Path.{ap, ap₂, sym, _∙_, _≡_}
 use Prim.Native.Nat.{_+_, _<_, _^_, ℕ, _≤_}
 use native.Mathlib.Omega.{arith}
 use lib.ListN.{length}
-use lib.Pow.{high, pow-mono}
+use lib.Pow.{high}
 use Rattle.circuit.proofs.OddSet.{length-odd, odd-mark, odd-set-at-most-t}
 use Rattle.circuit.proofs.ReadRuns.{read-runs}
 use Rattle.circuit.proofs.Sound.{read-sound}
@@ -19,26 +18,18 @@ use Rattle.circuit.specs.Run.{run}
 use Rattle.circuit.specs.Says.{endState, phaseAt}
 use Rattle.circuit.specs.Sound.{SoundMarks, SoundWeights}
 use Rattle.moves.proofs.Bound.{bound}
-use Rattle.moves.proofs.Product.{tri-mono, tri-square}
+use Rattle.moves.proofs.Finder.{none}
+use Rattle.moves.proofs.Log.{logged-length}
+use Rattle.moves.proofs.Replay.{replays-shrinks, replays-signature, replays-sound, signature-trans}
 use Rattle.moves.specs.Log.{logged}
 use Rattle.moves.specs.Move.{Legal}
-use Rattle.moves.specs.Product.{tri}
 use Rattle.moves.specs.Replay.{Replays}
 use Rattle.phase.proofs.Laws.{new-weights-odd-set, new-weights-same-phases, odd-set-has-signature}
 use Rattle.phase.proofs.Sums.{C}
 use Rattle.phase.specs.NewWeights.{newWeights}
 use Rattle.phase.specs.Signature.{SameSignature}
-use Rattle.trimmer.proofs.LogWritten.{logged-length}
-use Rattle.trimmer.proofs.Replaying.{Left, replays-leave, signature-then}
 use Rattle.trimmer.specs.Trimmed.{Trimmed, oddSetOf, weightsOf}
 use Rattle.trimmer.specs.declared.Counts.{Counts}
-
-room : (n : ℕ) → n ≤ maxWires → 2 ^ n ≤ weightBytes
-room n fit = pow-mono fit
-
--- the members that a legal move may need are no more than it may have
-enough : (n : ℕ) → n ≤ maxWires → tri n + 1 ≤ maxMembers
-enough n fit = omega (arith, tri-mono n maxWires fit, tri-square maxWires)
 
 -- the odd set of sound weights is sound
 pub odd-set-sound : (size n : ℕ) (w : List ℕ) → SoundWeights size n w → SoundMarks size n (oddSet w)
@@ -58,27 +49,24 @@ module _ (n : ℕ) (fit : n ≤ maxWires) (C : List Gate) (fC : AllWellFormed n 
   first : SoundMarks weightBytes n (oddSetOf n C)
   first = odd-set-sound weightBytes n (weightsOf n C) (read-sound maxWires n fit C fC .weights)
 
-  left : Left weightBytes n (oddSetOf n C) (length (logged moveBytes log k)) marks
-  left = replays-leave weightBytes n maxMembers (room n fit) (logged moveBytes log k) (oddSetOf n C) marks first replayed
-
   pub marks-sound : SoundMarks weightBytes n marks
-  marks-sound = left .sound
+  marks-sound = replays-sound weightBytes n maxMembers (limits-suffice n fit .0) (oddSetOf n C) (logged moveBytes log k) marks first replayed
 
   -- moves and members left are no more than the members at first
   pub moves-afford : k + members marks ≤ members (oddSetOf n C)
-  moves-afford = omega (arith, left .afford, logged-length moveBytes log k)
+  moves-afford = omega (arith, replays-shrinks weightBytes n maxMembers (limits-suffice n fit .0) (oddSetOf n C) (logged moveBytes log k) marks first replayed, logged-length moveBytes k log)
 
   same : SameSignature n marks (weightsOf n C)
-  same = signature-then n marks (oddSetOf n C) (weightsOf n C) (left .same) (odd-set-has-signature n (weightsOf n C))
+  same = signature-trans n marks (oddSetOf n C) (weightsOf n C) (replays-signature weightBytes n maxMembers (limits-suffice n fit .0) (oddSetOf n C) (logged moveBytes log k) marks first replayed) (odd-set-has-signature n (weightsOf n C))
 
   module _ (none : (z : ℕ) (Y : List ℕ) → Legal maxMembers n marks z Y → ⊥) (D : List Gate) (fD : AllWellFormed n D)
       (wD : weightsOf n D ≡ newWeights weightBytes n (weightsOf n C) marks) (rD : read maxWires n D .rows ≡ read maxWires n C .rows)
       (tD : tGates D ≡ members (oddSetOf n D)) where
     odd-D : oddSetOf n D ≡ marks
-    odd-D = ap oddSet wD ∙ new-weights-odd-set weightBytes n (room n fit) (weightsOf n C) marks marks-sound same
+    odd-D = ap oddSet wD ∙ new-weights-odd-set weightBytes n (limits-suffice n fit .0) (weightsOf n C) marks marks-sound same
 
     phases : (x : ℕ) → x < 2 ^ n → phaseAt n (weightsOf n D) x ≡ phaseAt n (weightsOf n C) x
-    phases x h = ap (λ (v : List ℕ). phaseAt n v x) wD ∙ new-weights-same-phases weightBytes n (room n fit) (weightsOf n C) marks marks-sound same x h
+    phases x h = ap (λ (v : List ℕ). phaseAt n v x) wD ∙ new-weights-same-phases weightBytes n (limits-suffice n fit .0) (weightsOf n C) marks marks-sound same x h
 
     acts : (x : ℕ) → x < 2 ^ n → run D x ≡ run C x
     acts x h =
@@ -98,11 +86,11 @@ module _ (n : ℕ) (fit : n ≤ maxWires) (C : List Gate) (fC : AllWellFormed n 
           t-out = tout ∙ sym t-D;
           one-each = tD;
           no-more = omega (arith, t-D, moves-afford, odd-set-at-most-t maxWires n fit C fC);
-          bound = omega (arith, t-D, bound weightBytes n maxMembers marks marks-sound (enough n fit) none, tri-square n);
+          bound = omega (arith, t-D, none-legal-bound weightBytes n maxMembers (limits-suffice n fit .0) marks marks-sound (limits-suffice n fit .1) none);
           replayed = rw (moves, odd-D) replayed;
           weights = rw odd-D wD;
           finished = rw odd-D none;
-          moves-logged = logged-length moveBytes log (counts .moves);
+          moves-logged = logged-length moveBytes (counts .moves) log;
           t-in = tin;
           odd-size = odd;
           gates-written = gates;
