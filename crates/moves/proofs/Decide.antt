@@ -143,11 +143,10 @@ balanced-decided n z Y = (
             λ i j k l g f.
             eqb→eq (sumOver (triple z i j k) Y % 2) 0 (every-at j (first j k) (every-at k (second k) (every-at n third (q .1) k f) j g) i l);
       },
-  λ b. T-both (eqb (xorAll Y) 0) (every n third) .1
-      (
-        eqb-same (xorAll Y) 0 (b .zero-xor),
-        at-every n third (λ k f. at-every k (second k) (λ j g. at-every j (first j k) (λ i l. eqb-same (sumOver (triple z i j k) Y % 2) 0 (b .triples i j k l g f)))),
-      ),
+  λ b. T-both (eqb (xorAll Y) 0) (every n third) .1 (
+    eqb-same (xorAll Y) 0 (b .zero-xor),
+    at-every n third (λ k f. at-every k (second k) (λ j g. at-every j (first j k) (λ i l. eqb-same (sumOver (triple z i j k) Y % 2) 0 (b .triples i j k l g f)))),
+  ),
 )
   where
     first : ℕ → ℕ → ℕ → Bool
@@ -173,15 +172,13 @@ legal-decided most n marks z Y = (
         separates = separates-decided marks z Y .0 (v .1);
         balanced = balanced-decided n z Y .0 (u .1);
       },
-  λ g. T-both (A && B && C && D) E .1
-      (
-        T-both (A && B && C) D .1
-            (
-              T-both (A && B) C .1 (T-both A B .1 (le→leb (length Y) most (g .few), ascending-decided Y .1 (g .ordered)), members-decided marks Y .1 (g .marked)),
-              separates-decided marks z Y .1 (g .separates),
-            ),
-        balanced-decided n z Y .1 (g .balanced),
-      ),
+  λ g. T-both (A && B && C && D) E .1 (
+    T-both (A && B && C) D .1 (
+      T-both (A && B) C .1 (T-both A B .1 (le→leb (length Y) most (g .few), ascending-decided Y .1 (g .ordered)), members-decided marks Y .1 (g .marked)),
+      separates-decided marks z Y .1 (g .separates),
+    ),
+    balanced-decided n z Y .1 (g .balanced),
+  ),
 )
   where
     A : Bool
@@ -222,8 +219,7 @@ move-decided most n marks bytes = (
         legal = legal-decided most n marks (zOf bytes) (setOf bytes) .0 (q .1);
       },
   λ f. let s = bytes-say most (f .z) (f .Y) bytes (f .is) in
-      T-both S R .1
-      (
+      T-both S R .1 (
         same-decided bytes (asBytes most (zOf bytes) (setOf bytes)) .1 (f .is ∙ sym (ap₂ (asBytes most) (s .0) (s .1))),
         legal-decided most n marks (zOf bytes) (setOf bytes) .1 (rw (s .0, s .1) (f .legal)),
       ),

@@ -14,3 +14,4 @@ pub mod Wires
 pub mod Log
 pub mod Replay
 pub mod Decide
+pub mod Laws

@@ -4,11 +4,12 @@ use mathlib.Core.Path.{_∙_, _≡_, ap, ap₂, refl, sym}
 use Prim.Native.Nat.{_*_, _+_, _-_, _<_, _≤_, suc, zero, ℕ}
 use native.Mathlib.Decide.{decLt}
 use native.Mathlib.Omega.{arith}
-use lib.ListN.{drop, getD, length, length-append, length-drop, length-replicate, replicate, take, take-append-drop}
-use lib.Seq.{drop-at, ext-getD, getD-append-add, getD-drop, length-take-le, take-add, take-append-seam, take-at, take-take}
+use lib.ListN.{drop, getD, length, length-append, length-drop, length-replicate, replicate, set, take, take-append-drop}
+use lib.Seq.{drop-at, ext-getD, getD-append-add, getD-drop, length-take-le, set-append-seam, take-add, take-append-seam, take-at, take-take}
 use borrow.Author.Tests.{le-leb, lt-leb}
 use Rattle.circuit.specs.Entry.{after}
 use Rattle.gf2.proofs.Combination.{getD-zeros}
+use Rattle.moves.proofs.Product.{place}
 use Rattle.moves.specs.Log.{asBytes, logged, moveAt, setOf, zOf}
 
 -- ---- the bytes of a move
@@ -37,6 +38,22 @@ module _ (most z : ℕ) (Y : List ℕ) where
       let j : ℕ = i - (length Y + 2) in
       let e : i ≡ suc (suc (length Y + j)) = omega arith in
       rw e (getD-append-add Y (replicate (most - length Y) 0) j 0 ∙ getD-zeros (most - length Y) j)
+
+-- for code that writes them: no Y yet, and one number more
+pub bytes-none : (most z : ℕ) → asBytes most z [] ≡ z ∷ 0 ∷ replicate most 0
+unfolding asBytes
+bytes-none most z = let e : most - 0 ≡ most = omega arith in rw e
+
+pub bytes-more : (most z : ℕ) (Y : List ℕ) (y : ℕ) → length Y < most
+    → set (set (asBytes most z Y) (length Y + 2) y) 1 (length Y + 1) ≡ asBytes most z (Y ++ (y ∷ []))
+unfolding asBytes
+bytes-more most z Y y h =
+    let d : ℕ = most - suc (length Y) in
+    let e : most - length Y ≡ suc d = omega arith in
+    let place : length Y + 2 ≡ suc (suc (length Y)) = omega arith in
+    let more : length (Y ++ (y ∷ [])) ≡ length Y + 1 = length-append Y (y ∷ []) in
+    let left : most - (length Y + 1) ≡ d = omega arith in
+    rw (e, place, more, left, set-append-seam Y 0 (replicate d 0) y, append-assoc Y (y ∷ []) (replicate d 0))
 
 -- the bytes of a move say that move
 pub bytes-say : (most z : ℕ) (Y bytes : List ℕ) → bytes ≡ asBytes most z Y → (zOf bytes ≡ z) × (setOf bytes ≡ Y)

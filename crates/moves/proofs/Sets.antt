@@ -1,13 +1,14 @@
 -- Sets by counting: occ p Y is how often p stands in Y, so that membership, subset and "nothing twice" are numbers.
 use mathlib.Core.List.{List, [], _++_, _∷_, append-nil}
 use mathlib.Core.Path.{_∙_, _≡_, ap, ap₂, refl, sym}
-use Prim.Native.Nat.{_*_, _+_, _<_, _≤_, suc, suc-le-suc, zero, zero-le, ℕ}
+use Prim.Native.Nat.{_*_, _+_, _-_, _<_, _≤_, suc, suc-le-suc, zero, zero-le, ℕ}
 use native.Mathlib.Decide.{decLt, ℕ-discrete}
 use native.Mathlib.Nat.{le-refl, mul-one}
+use native.Mathlib.Numerals.{add-one}
 use native.Mathlib.Omega.{arith}
 use lib.ListN.{getD, length}
 use Rattle.gf2.proofs.Over.{length-sumOver, sumOver-append, sumOver-cons, sumOver-nil}
-use Rattle.gf2.proofs.Sum.{delta-other, delta-same, sum-add, sum-ext, sum-single, sum-zero}
+use Rattle.gf2.proofs.Sum.{delta-other, delta-same, sum-add, sum-append, sum-ext, sum-single, sum-suc, sum-zero}
 use Rattle.gf2.specs.Over.{Below, sumOver}
 use Rattle.gf2.specs.Sum.{delta, sum}
 use Rattle.moves.specs.Sets.{Ascending, In, listed, only}
@@ -134,13 +135,18 @@ listed-ext zero f g h = refl
 listed-ext (suc k) f g h = ap₂ (λ (Y : List ℕ) (b : ℕ). Y ++ only b k) (listed-ext k f g (λ p l. h p (omega arith))) (h k (le-refl _))
 
 -- for a loop that lists: a number that f marks, and one that it does not
-pub listed-on : (k : ℕ) (f : ℕ → ℕ) → f k ≡ 1 → listed (suc k) f ≡ listed k f ++ (k ∷ [])
+pub listed-on : (k : ℕ) (f : ℕ → ℕ) → f k ≡ 1 → listed (k + 1) f ≡ listed k f ++ (k ∷ [])
 unfolding listed only
-listed-on k f e = ap (λ (b : ℕ). listed k f ++ only b k) e
+listed-on k f e = rw (add-one k) (ap (λ (b : ℕ). listed k f ++ only b k) e)
 
-pub listed-off : (k : ℕ) (f : ℕ → ℕ) → f k ≡ 0 → listed (suc k) f ≡ listed k f
+pub listed-off : (k : ℕ) (f : ℕ → ℕ) → f k ≡ 0 → listed (k + 1) f ≡ listed k f
 unfolding listed only
-listed-off k f e = ap (λ (b : ℕ). listed k f ++ only b k) e ∙ append-nil (listed k f)
+listed-off k f e = rw (add-one k) (ap (λ (b : ℕ). listed k f ++ only b k) e ∙ append-nil (listed k f))
+
+pub listed-none : (k : ℕ) → listed k (λ p. 0) ≡ []
+unfolding listed only
+listed-none zero = refl
+listed-none (suc k) = append-nil (listed k (λ p. 0)) ∙ listed-none k
 
 module _ (f : ℕ → ℕ) (marks : (p : ℕ) → f p < 2) where
   only-sum : (c : ℕ → ℕ) (b k : ℕ) → b < 2 → sumOver c (only b k) ≡ b * c k
@@ -156,6 +162,13 @@ module _ (f : ℕ → ℕ) (marks : (p : ℕ) → f p < 2) where
 
   pub listed-length : (k : ℕ) → length (listed k f) ≡ sum k f
   listed-length k = length-sumOver (listed k f) ∙ listed-sum k (λ y. 1) ∙ sum-ext k (λ p. f p * 1) f (λ p l. mul-one (f p))
+
+  -- there is room for a number that f marks
+  pub listed-room : (k p : ℕ) → p < k → f p ≡ 1 → length (listed p f) < length (listed k f)
+  listed-room k p l e =
+      let d : ℕ = k - suc p in
+      let q : k ≡ suc p + d = omega arith in
+      rw (q, listed-length p, listed-length (suc p + d)) (omega (arith, sum-append (suc p) d f, sum-suc p f))
 
   -- p stands in it as often as f says
   pub listed-occ : (k p : ℕ) → p < k → occ p (listed k f) ≡ f p

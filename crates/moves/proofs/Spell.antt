@@ -1,10 +1,11 @@
 -- From a mask of slots to the set Y: the mark of each named slot's member is toggled, then the marks are listed. Toggling makes it needless that members differ.
-use mathlib.Core.List.{List, [], map}
+use mathlib.Core.List.{List, map}
 use mathlib.Core.Logic.{_≢_}
 use mathlib.Core.Path.{_∙_, _≡_, ap, refl, subst, sym}
 use Prim.Native.Nat.{_%_, _*_, _+_, _<_, _^_, _≤_, suc, zero, ℕ}
 use native.Mathlib.Decide.{ℕ-discrete}
 use native.Mathlib.Nat.{le-refl, one-mul, zero-mul}
+use native.Mathlib.Numerals.{add-one}
 use native.Mathlib.Omega.{arith}
 use lib.Bits.{bitXor, xor-comm, xor-zero-r}
 use lib.ListN.{getD, length, length-replicate, length-set, replicate}
@@ -21,15 +22,10 @@ use Rattle.gf2.specs.Selection.{combine}
 use Rattle.gf2.specs.Sum.{sum}
 use Rattle.gf2.specs.Table.{weightedSum}
 use Rattle.moves.proofs.Flips.{flip-bits, if-bits, if-length}
-use Rattle.moves.proofs.Sets.{listed-ext, listed-off, listed-sum}
+use Rattle.moves.proofs.Sets.{listed-ext, listed-none, listed-sum}
 use Rattle.moves.specs.CarryOut.{flip, flipIf}
 use Rattle.moves.specs.Pair.{spell}
 use Rattle.moves.specs.Sets.{listed}
-
-listed-none : (k : ℕ) → listed k (λ p. 0) ≡ []
-unfolding listed
-listed-none zero = refl
-listed-none (suc k) = listed-off k (λ p. 0) refl ∙ listed-none k
 
 -- a sum over the listed marks
 marks-sum : (size : ℕ) (w : List ℕ) → length w ≡ size → ((p : ℕ) → getD w p 0 < 2) → (c : ℕ → ℕ) → sumOver c (listed size (λ p. getD w p 0)) ≡ weightedSum w c
@@ -58,6 +54,15 @@ toggled-few w q l =
     )
 
 module _ (size : ℕ) (member : List ℕ) (m : ℕ) where
+  -- for a loop over the slots: a slot that m names, and one that it does not
+  pub spell-on : (k : ℕ) → bit m k ≡ 1 → spell size member m (k + 1) ≡ flip (spell size member m k) (getD member k 0)
+  unfolding spell flipIf
+  spell-on k e = rw (add-one k) (ap (λ (b : ℕ). flipIf b (spell size member m k) (getD member k 0)) e)
+
+  pub spell-off : (k : ℕ) → bit m k ≡ 0 → spell size member m (k + 1) ≡ spell size member m k
+  unfolding spell flipIf
+  spell-off k e = rw (add-one k) (ap (λ (b : ℕ). flipIf b (spell size member m k) (getD member k 0)) e)
+
   pub spell-length : (k : ℕ) → length (spell size member m k) ≡ size
   unfolding spell
   spell-length zero = length-replicate size 0
