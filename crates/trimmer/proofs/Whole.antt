@@ -19,6 +19,7 @@ use Rattle.circuit.specs.Says.{endState, phaseAt}
 use Rattle.circuit.specs.Sound.{SoundMarks, SoundWeights}
 use Rattle.moves.proofs.Bound.{bound}
 use Rattle.moves.proofs.Finder.{none}
+use Rattle.moves.proofs.Laws.{limits-suffice, none-legal-bound}
 use Rattle.moves.proofs.Log.{logged-length}
 use Rattle.moves.proofs.Replay.{replays-shrinks, replays-signature, replays-sound, signature-trans}
 use Rattle.moves.specs.Log.{logged}
