@@ -1,4 +1,4 @@
--- Flipped marks: their number stays, marks stay 0 or 1, mark 0 is cleared; and, for code, one turn of the loop that carries out a move.
+-- Flipped marks: mark 0 is cleared; one turn of the loop that carries out a move; marks stay 0 or 1, and as many.
 use mathlib.Core.List.{List, [], _∷_}
 use mathlib.Core.Logic.{_≢_}
 use mathlib.Core.Path.{_∙_, _≡_, ap, refl, sym}
@@ -9,6 +9,39 @@ use lib.Bits.{bitXor}
 use lib.ListN.{drop, getD, length, length-set, set}
 use lib.Seq.{drop-cons, drop-length}
 use Rattle.moves.specs.CarryOut.{carryOut, flip, flipIf, flipPairs}
+
+-- mark 0 is cleared
+cleared : (w : List ℕ) → getD (set w 0 0) 0 0 ≡ 0
+cleared [] = refl
+cleared (x ∷ w) = refl
+
+pub clear-carryOut : (marks : List ℕ) (z : ℕ) (Y : List ℕ) → getD (carryOut marks z Y) 0 0 ≡ 0
+unfolding carryOut
+clear-carryOut marks z Y = rw cleared
+
+-- ---- for a loop over Y: what it keeps is `flipPairs now z (drop i Y) ≡ flipPairs before z Y`
+
+-- one turn of it
+pub pairs-next : (w w₁ w₂ R : List ℕ) (z : ℕ) (Y : List ℕ) (i : ℕ) → i < length Y → w₁ ≡ flip w (getD Y i 0) → w₂ ≡ flip w₁ (bitXor (getD Y i 0) z)
+    → flipPairs w z (drop i Y) ≡ R → flipPairs w₂ z (drop (i + 1) Y) ≡ R
+unfolding flipPairs
+pairs-next w w₁ w₂ R z Y i l e₁ e₂ h = rw (e₂, e₁, add-one i) (ap (λ (q : List ℕ). flipPairs w z q) (sym (drop-cons Y i 0 l)) ∙ h)
+
+-- its end
+pub pairs-end : (w R : List ℕ) (z : ℕ) (Y : List ℕ) (i : ℕ) → i ≡ length Y → flipPairs w z (drop i Y) ≡ R → w ≡ R
+unfolding flipPairs
+pairs-end w R z Y i e h = ap (λ (q : List ℕ). flipPairs w z q) (sym (ap (λ (j : ℕ). drop j Y) e ∙ drop-length Y)) ∙ h
+
+-- the rest of carrying out, for an odd and for an even Y
+pub carry-odd : (marks w w₁ : List ℕ) (z : ℕ) (Y : List ℕ) → w ≡ flipPairs marks z Y → length Y % 2 ≡ 1 → w₁ ≡ flip w z → set w₁ 0 0 ≡ carryOut marks z Y
+unfolding carryOut flipIf
+carry-odd marks w w₁ z Y e h e₁ = rw (e₁, e, h)
+
+pub carry-even : (marks w : List ℕ) (z : ℕ) (Y : List ℕ) → w ≡ flipPairs marks z Y → length Y % 2 ≢ 1 → set w 0 0 ≡ carryOut marks z Y
+unfolding carryOut flipIf
+carry-even marks w z Y e h = let q : length Y % 2 ≡ 0 = omega arith in rw (e, q)
+
+-- ---- marks stay 0 or 1, and stay as many
 
 pub set-bits : (w : List ℕ) (q v p : ℕ) → v < 2 → getD w p 0 < 2 → getD (set w q v) p 0 < 2
 set-bits [] q v p h b = b
@@ -42,42 +75,10 @@ if-length (suc r) w z = simp length-set
 
 pub carryOut-length : (marks : List ℕ) (z : ℕ) (Y : List ℕ) → length (carryOut marks z Y) ≡ length marks
 unfolding carryOut
-carryOut-length marks z Y =
-    let w : List ℕ = flipIf (length Y % 2) (flipPairs marks z Y) z in
-    length-set w 0 0 ∙ if-length (length Y % 2) (flipPairs marks z Y) z ∙ pairs-length marks z Y
+carryOut-length marks z Y = simp (length-set, if-length, pairs-length)
 
 pub carryOut-bits : (marks : List ℕ) (z : ℕ) (Y : List ℕ) (p : ℕ) → getD marks p 0 < 2 → getD (carryOut marks z Y) p 0 < 2
 unfolding carryOut
 carryOut-bits marks z Y p b =
     let w : List ℕ = flipIf (length Y % 2) (flipPairs marks z Y) z in
     set-bits w 0 0 p (omega arith) (if-bits (length Y % 2) (flipPairs marks z Y) z p (pairs-bits marks z Y p b))
-
-pub clear-carryOut : (marks : List ℕ) (z : ℕ) (Y : List ℕ) → getD (carryOut marks z Y) 0 0 ≡ 0
-unfolding carryOut
-clear-carryOut marks z Y = first (flipIf (length Y % 2) (flipPairs marks z Y) z)
-  where
-    first : (w : List ℕ) → getD (set w 0 0) 0 0 ≡ 0
-    first [] = refl
-    first (x ∷ w) = refl
-
--- ---- for a loop over Y: what it keeps is `flipPairs now z (drop i Y) ≡ flipPairs before z Y`
-
--- one turn of it
-pub pairs-next : (w w₁ w₂ R : List ℕ) (z : ℕ) (Y : List ℕ) (i : ℕ) → i < length Y → w₁ ≡ flip w (getD Y i 0) → w₂ ≡ flip w₁ (bitXor (getD Y i 0) z)
-    → flipPairs w z (drop i Y) ≡ R → flipPairs w₂ z (drop (i + 1) Y) ≡ R
-unfolding flipPairs
-pairs-next w w₁ w₂ R z Y i l e₁ e₂ h = rw (e₂, e₁, add-one i) (ap (λ (q : List ℕ). flipPairs w z q) (sym (drop-cons Y i 0 l)) ∙ h)
-
--- its end
-pub pairs-end : (w R : List ℕ) (z : ℕ) (Y : List ℕ) (i : ℕ) → i ≡ length Y → flipPairs w z (drop i Y) ≡ R → w ≡ R
-unfolding flipPairs
-pairs-end w R z Y i e h = ap (λ (q : List ℕ). flipPairs w z q) (sym (ap (λ (j : ℕ). drop j Y) e ∙ drop-length Y)) ∙ h
-
--- the rest of carrying out, for an odd and for an even Y
-pub carry-odd : (marks w w₁ : List ℕ) (z : ℕ) (Y : List ℕ) → w ≡ flipPairs marks z Y → length Y % 2 ≡ 1 → w₁ ≡ flip w z → set w₁ 0 0 ≡ carryOut marks z Y
-unfolding carryOut flipIf
-carry-odd marks w w₁ z Y e h e₁ = rw (e₁, e, h)
-
-pub carry-even : (marks w : List ℕ) (z : ℕ) (Y : List ℕ) → w ≡ flipPairs marks z Y → length Y % 2 ≢ 1 → set w 0 0 ≡ carryOut marks z Y
-unfolding carryOut flipIf
-carry-even marks w z Y e h = let q : length Y % 2 ≡ 0 = omega arith in rw (e, q)

@@ -20,6 +20,15 @@ use Rattle.moves.specs.Kappa.{bar, kappa}
 use Rattle.moves.specs.Move.{Balanced, triple}
 use Rattle.moves.specs.Product.{product, tri}
 
+-- as code computes it, by the bit t of y
+pub kappa-on : (n z t y : ℕ) → bit y t ≡ 1 → kappa n z t y ≡ bitXor (product n (bitXor y z)) (2 ^ (tri t + t))
+unfolding kappa bar
+kappa-on n z t y e = rw (e, one-mul z, one-mul (2 ^ (tri t + t)))
+
+pub kappa-off : (n z t y : ℕ) → bit y t ≡ 0 → kappa n z t y ≡ product n y
+unfolding kappa bar
+kappa-off n z t y e = rw (e, zero-mul z, zero-mul (2 ^ (tri t + t)), xor-zero-r y) (xor-zero-r (product n y))
+
 pub bar-bit : (z t y i : ℕ) → bit (bar z t y) i ≡ (bit y i + bit y t * bit z i) % 2
 unfolding bar
 bar-bit z t y i = bit-xor y (bit y t * z) i ∙ ap (λ (x : ℕ). (bit y i + x) % 2) (bit-scale (bit y t) z i (bit-lt y t))
@@ -32,15 +41,6 @@ unfolding kappa
 kappa-lt n z t y l =
     xor-lt (tri n) (product n (bar z t y)) (bit y t * 2 ^ (tri t + t)) (product-lt n (bar z t y))
     (scale-lt (bit y t) (2 ^ (tri t + t)) (2 ^ tri n) (bit-lt y t) (pow-lt (place-lt n t t (omega arith) l)))
-
--- as code computes it, by the bit t of y
-pub kappa-off : (n z t y : ℕ) → bit y t ≡ 0 → kappa n z t y ≡ product n y
-unfolding kappa bar
-kappa-off n z t y e = rw (e, zero-mul z, zero-mul (2 ^ (tri t + t)), xor-zero-r y) (xor-zero-r (product n y))
-
-pub kappa-on : (n z t y : ℕ) → bit y t ≡ 1 → kappa n z t y ≡ bitXor (product n (bitXor y z)) (2 ^ (tri t + t))
-unfolding kappa bar
-kappa-on n z t y e = rw (e, one-mul z, one-mul (2 ^ (tri t + t)))
 
 -- the bit of kappa at the place of i ≤ j
 kappa-bit : (n z t y i j : ℕ) → i ≤ j → j < n

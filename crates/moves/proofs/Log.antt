@@ -86,14 +86,14 @@ said-bytes most (z ∷ c ∷ rest) len few zeroes =
 -- ---- a log
 
 module _ (size : ℕ) (log : List ℕ) (k : ℕ) where
-  pub move-whole : size * k + size ≤ length log → moveAt size log k ≡ take size (drop (size * k) log)
-  unfolding moveAt
-  move-whole h = simp (le-leb (size * k + size) (length log) h)
-
   -- empty if the log has fewer bytes
   pub move-short : length log < size * k + size → moveAt size log k ≡ []
   unfolding moveAt
   move-short h = simp (lt-leb (size * k + size) (length log) h)
+
+  pub move-whole : size * k + size ≤ length log → moveAt size log k ≡ take size (drop (size * k) log)
+  unfolding moveAt
+  move-whole h = simp (le-leb (size * k + size) (length log) h)
 
 -- a part of a list is the end of a front of it
 part : (j size : ℕ) (log : List ℕ) → j ≤ length log → take size (drop j log) ≡ drop j (take (j + size) log)
