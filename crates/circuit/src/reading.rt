@@ -1,6 +1,6 @@
 // Reading gates that have no fault into weights and rows (document 01, "Weights and rows").
 ghost use mathlib.Core.Path.{_≡_};
-ghost use Prim.Native.Nat.{ℕ, _<_, _≤_};
+ghost use Prim.Native.Nat.{ℕ, _+_, _%_, _<_, _≤_};
 ghost use lib.ListN.{length, getD};
 ghost use Rattle.gf2.specs.Table.{addAt};
 ghost use Rattle.circuit.specs.Limits.{maxWires, weightBytes};
@@ -96,8 +96,16 @@ fn turn(t: Tables, v: u8, a: u8) -> Tables
 {
     let mut s = t;
     let q = held(t, a);
-    s.weights[q] = (s.weights[q] + v) % 8;
+    s.weights[q] = add_phase(s.weights[q], v);
     s
+}
+
+// Phases add up to whole turns, modulo 8.
+fn add_phase(w: Weight, v: u8) -> Weight
+    requires { ⌜ (w < 8) × (v < 8) ⌝ }
+    ensures { λ r. ⌜ r ≡ (w + v) % 8 ⌝ }
+{
+    (w + v) % 8
 }
 
 // The parity that wire a holds, as a place of the weights.

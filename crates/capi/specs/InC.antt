@@ -1,0 +1,12 @@
+-- What an exported function promises: the entry's own promise, its reply told as document 01's number and place.
+use mathlib.Core.Path.{_≡_}
+use Prim.Native.Nat.{ℕ}
+use Rattle.circuit.specs.Entry.{numberOf, placeOf}
+use Rattle.circuit.specs.declared.Reply.{Reply}
+
+-- the entry replied as its promise says, and these are the reply's number, 0 for none, and place
+pub record InC (Promise : Reply → Type 0) (number place : ℕ) : Type 0 where
+  pub reply : Reply
+  pub promise : Promise reply
+  pub number-is : number ≡ numberOf reply
+  pub place-is : place ≡ placeOf reply

@@ -1,0 +1,61 @@
+-- Document 01, "Marked and other circuits": the marked cases as a table, and what each of them claims of the definitions.
+use mathlib.Core.List.{_++_, List, [], _∷_}
+use mathlib.Core.Path.{_≡_}
+use Prim.Native.Nat.{_-_, ℕ}
+use lib.ListN.{length, replicate, set}
+use Rattle.circuit.specs.Faults.{firstFault, sameWire}
+use Rattle.circuit.specs.Gate.{Gate, gate, tGates}
+use Rattle.circuit.specs.Limits.{maxWires, rowBytes}
+use Rattle.circuit.specs.OddSet.{members, oddSet}
+use Rattle.circuit.specs.Read.{noWeights, read}
+use Rattle.circuit.specs.declared.Reply.{Reply}
+use Rattle.circuit.specs.declared.Reply.the-variants.{Done, Refused}
+
+-- weight w at parity p
+pub data Entry : Type 0 where
+  at : ℕ → ℕ → Entry
+
+-- what a case says
+pub data Case : Type 0 where
+  -- reading these gates on n wires gives these weights, 0 elsewhere, these rows 0 to n - 1, that many T gates and an odd set of that size
+  reads : (n : ℕ) → List Gate → List Entry → List ℕ → (t : ℕ) → (odd : ℕ) → Case
+  -- these gates on n wires have that fault first, at that gate
+  refuses : (n : ℕ) → List Gate → (number : ℕ) → (place : ℕ) → Case
+
+-- weights with these entries, 0 elsewhere
+unfoldable pub weightsWith : List Entry → List ℕ
+weightsWith [] = noWeights maxWires
+weightsWith (at p w ∷ es) = set (weightsWith es) p w
+
+-- rows that go on with 0
+unfoldable pub rowsWith : List ℕ → List ℕ
+rowsWith rows = rows ++ replicate (rowBytes - length rows) 0
+
+abbrev pub Claim : Case → Type 0
+Claim (reads n gs es rows t odd) =
+    (read maxWires n gs .weights ≡ weightsWith es) × (read maxWires n gs .rows ≡ rowsWith rows) × (tGates gs ≡ t) × (members (oddSet (read maxWires n gs .weights)) ≡ odd)
+Claim (refuses n gs number place) = firstFault n 0 gs ≡ Refused number place
+
+abbrev pub AllClaimed : List Case → Type 0
+AllClaimed [] = Unit {0}
+AllClaimed (k ∷ ks) = Claim k × AllClaimed ks
+
+abbrev pub CNOT : ℕ → ℕ → Gate
+CNOT a b = gate 1 a b
+
+abbrev pub T-gate : ℕ → Gate
+T-gate a = gate 2 a 0
+
+abbrev pub T-dagger : ℕ → Gate
+T-dagger a = gate 6 a 0
+
+-- M1 to M5 and M10, in order
+unfoldable pub cases : List Case
+cases =
+    reads 1 [] [] (1 ∷ []) 0 0
+    ∷ reads 1 (T-gate 0 ∷ []) (at 1 1 ∷ []) (1 ∷ []) 1 1
+    ∷ reads 1 (T-gate 0 ∷ T-dagger 0 ∷ []) [] (1 ∷ []) 2 0
+    ∷ reads 2 (CNOT 0 1 ∷ T-gate 1 ∷ []) (at 3 1 ∷ []) (1 ∷ 3 ∷ []) 1 1
+    ∷ reads 2 (CNOT 0 1 ∷ CNOT 1 0 ∷ CNOT 0 1 ∷ []) [] (2 ∷ 1 ∷ []) 0 0
+    ∷ refuses 1 (CNOT 0 0 ∷ []) sameWire 0
+    ∷ []
