@@ -2,14 +2,21 @@
 use mathlib.Core.Bool.{_&&_, Bool, false, true}
 use mathlib.Core.List.{List, [], _∷_}
 use mathlib.Core.Path.{ap₂, refl, _≡_}
-use Prim.Native.Nat.{ℕ}
-use lib.Dec.{T, eqb, eqb→eq}
+use Prim.Native.Nat.{_<_, _^_, ℕ}
+use native.Mathlib.Omega.{arith}
+use lib.Dec.{T, eqb, eqb→eq, ltb, ltb→lt}
 use Rattle.circuit.specs.Faults.{firstFault}
 use Rattle.circuit.specs.Gate.{tGates}
-use Rattle.circuit.specs.Limits.{maxWires}
+use Rattle.circuit.specs.Limits.{maxMembers, maxWires}
 use Rattle.circuit.specs.OddSet.{members, oddSet}
 use Rattle.circuit.specs.Read.{read}
-use Rattle.marked.specs.Cases.{AllClaimed, Case, Claim, reads, refuses, rowsWith, weightsWith}
+use Rattle.gf2.specs.Selection.{combine}
+use Rattle.moves.proofs.Decide.{every-at, legal-decided}
+use Rattle.moves.proofs.Product.{place}
+use Rattle.moves.specs.CarryOut.{carryOut}
+use Rattle.moves.specs.Decide.{every, isLegal}
+use Rattle.phase.specs.Coefficients.{c, l, q}
+use Rattle.marked.specs.Cases.{AllClaimed, Case, Claim, coefficients, dependent, leaves, reads, refuses, rowsWith, weightsWith}
 use Rattle.circuit.specs.declared.Reply.{Reply}
 use Rattle.circuit.specs.declared.Reply.the-variants.{Done, Refused}
 
@@ -45,12 +52,40 @@ refusal (Refused f i) number place t =
     let h = both (eqb f number) (eqb i place) t in
     ap₂ (λ (a b : ℕ). Refused a b) (eqb→eq f number (h .0)) (eqb→eq i place (h .1))
 
+-- every coefficient of weights is that number
+unfoldable pub allL : ℕ → List ℕ → ℕ → Bool
+allL n w a = every n (λ i. eqb (l w i) a)
+
+unfoldable pub allQ : ℕ → List ℕ → ℕ → Bool
+allQ n w b = every n (λ j. every j (λ i. eqb (q w i j) b))
+
+unfoldable pub allC : ℕ → List ℕ → ℕ → Bool
+allC n w d = every n (λ k. every k (λ j. every j (λ i. eqb (c w i j k) d)))
+
+l-all : (n : ℕ) (w : List ℕ) (a : ℕ) → T (allL n w a) → (i : ℕ) → i < n → l w i ≡ a
+unfolding allL
+l-all n w a t i h = eqb→eq (l w i) a (every-at n (λ i. eqb (l w i) a) t i h)
+
+q-all : (n : ℕ) (w : List ℕ) (b : ℕ) → T (allQ n w b) → (i j : ℕ) → i < j → j < n → q w i j ≡ b
+unfolding allQ
+q-all n w b t i j h g = eqb→eq (q w i j) b (every-at j (λ i. eqb (q w i j) b) (every-at n (λ j. every j (λ i. eqb (q w i j) b)) t j g) i h)
+
+c-all : (n : ℕ) (w : List ℕ) (d : ℕ) → T (allC n w d) → (i j k : ℕ) → i < j → j < k → k < n → c w i j k ≡ d
+unfolding allC
+c-all n w d t i j k h g f =
+    eqb→eq (c w i j k) d
+    (every-at j (λ i. eqb (c w i j k) d)
+    (every-at k (λ j. every j (λ i. eqb (c w i j k) d)) (every-at n (λ k. every k (λ j. every j (λ i. eqb (c w i j k) d))) t k f) j g) i h)
+
 unfoldable pub holds : Case → Bool
 holds (reads n gs es rows t odd) =
     same (read maxWires n gs .weights) (weightsWith es) && (same (read maxWires n gs .rows) (rowsWith rows) && (eqb (tGates gs) t && eqb (members (oddSet (read maxWires n gs .weights))) odd))
 holds (refuses n gs number place) = isRefusal (firstFault n 0 gs) number place
+holds (coefficients n es a b d) = allL n (weightsWith es) a && (allQ n (weightsWith es) b && allC n (weightsWith es) d)
+holds (leaves n es z Y left) = isLegal maxMembers n (weightsWith es) z Y && same (carryOut (weightsWith es) z Y) (weightsWith left)
+holds (dependent n rows s) = ltb 0 s && (ltb s (2 ^ n) && eqb (combine s (rowsWith rows)) 0)
 
-pub claimed : (c : Case) → T (holds c) → Claim c
+pub claimed : (k : Case) → T (holds k) → Claim k
 unfolding holds
 claimed (reads n gs es rows t odd) h =
     let w : List ℕ = read maxWires n gs .weights in
@@ -60,6 +95,18 @@ claimed (reads n gs es rows t odd) h =
     let d = both (eqb (tGates gs) t) (eqb (members (oddSet w)) odd) (b .1) in
     (same-lists w (weightsWith es) (a .0), same-lists s (rowsWith rows) (b .0), eqb→eq (tGates gs) t (d .0), eqb→eq (members (oddSet w)) odd (d .1))
 claimed (refuses n gs number place) h = refusal (firstFault n 0 gs) number place h
+claimed (coefficients n es a b d) h =
+    let w : List ℕ = weightsWith es in
+    let s = both (allL n w a) (allQ n w b && allC n w d) h in
+    let t = both (allQ n w b) (allC n w d) (s .1) in
+    record { l-is = l-all n w a (s .0); q-is = q-all n w b (t .0); c-is = c-all n w d (t .1) }
+claimed (leaves n es z Y left) h =
+    let s = both (isLegal maxMembers n (weightsWith es) z Y) (same (carryOut (weightsWith es) z Y) (weightsWith left)) h in
+    (legal-decided maxMembers n (weightsWith es) z Y .0 (s .0), same-lists (carryOut (weightsWith es) z Y) (weightsWith left) (s .1))
+claimed (dependent n rows s) h =
+    let a = both (ltb 0 s) (ltb s (2 ^ n) && eqb (combine s (rowsWith rows)) 0) h in
+    let b = both (ltb s (2 ^ n)) (eqb (combine s (rowsWith rows)) 0) (a .1) in
+    λ sound. sound .free s (omega (arith, ltb→lt 0 s (a .0))) (ltb→lt s (2 ^ n) (b .0)) (eqb→eq (combine s (rowsWith rows)) 0 (b .1))
 
 -- every case of a list holds
 unfoldable pub allHold : List Case → Bool

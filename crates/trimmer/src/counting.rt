@@ -5,7 +5,8 @@ ghost use lib.ListN.{length};
 ghost use Rattle.circuit.specs.Gate.{isT, tGates, gatesOf};
 ghost use Rattle.circuit.specs.Limits.{maxListBytes, weightBytes};
 ghost use Rattle.circuit.specs.OddSet.{members};
-use circuit::limits::{GATE_BYTES, WEIGHT_BYTES};
+use circuit::limits::GATE_BYTES;
+use circuit::limits::WEIGHT_BYTES;
 
 // How many T and T dagger gates a list holds.
 pub fn t_gates(gates: &[u8]) -> usize

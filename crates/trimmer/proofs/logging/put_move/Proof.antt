@@ -46,12 +46,13 @@ loop-again c =
     let d = now (a .log) in
     let f = now (a .forty) in
     let j = at .loop .j in
-    let p = at .before .pre in
-    (search needs,
-    simp length-set (omega arith),
-    rw add-one
-    (ap (λ (x : List ℕ). set x (moveBytes * a .k + j) (getD f j 0)) (at .loop .inv .2)
-    ∙ paste-suc d (moveBytes * a .k) f j 0 (omega (arith, p .0)) (omega (arith, p .1))))
+    let p = at .before .pre in (
+      search needs,
+      simp length-set (omega arith),
+      rw add-one
+          (ap (λ (x : List ℕ). set x (moveBytes * a .k + j) (getD f j 0)) (at .loop .inv .2)
+          ∙ paste-suc d (moveBytes * a .k) f j 0 (omega (arith, p .0)) (omega (arith, p .1))),
+    )
 
 same-length : tie.Need-same-length Inv-loop μ-loop
 same-length c = search needs
