@@ -21,7 +21,7 @@ use Rattle.moves.specs.Sets.{Ascending, In}
 
 -- ---- tests
 
-T-both : (a b : Bool) → T (a && b) ↔ (T a × T b)
+pub T-both : (a b : Bool) → T (a && b) ↔ (T a × T b)
 T-both true b = (λ t. (tt, t), λ t. t .1)
 T-both false b = (λ t. absurd t, λ t. t .0)
 
@@ -198,7 +198,7 @@ legal-decided most n marks z Y = (
 
 -- ---- the bytes of a move
 
-same-decided : (xs ys : List ℕ) → T (sameBytes xs ys) ↔ (xs ≡ ys)
+pub same-decided : (xs ys : List ℕ) → T (sameBytes xs ys) ↔ (xs ≡ ys)
 unfolding sameBytes
 same-decided [] [] = (λ t. refl, λ e. tt)
 same-decided [] (y ∷ ys) = (λ t. absurd t, λ e. let q : _≡_ {A = ℕ} 0 1 = cc in absurd (omega arith))

@@ -18,10 +18,10 @@ use Rattle.circuit.specs.Run.{run}
 use Rattle.circuit.specs.Says.{endState, phaseAt}
 use Rattle.circuit.specs.Sound.{SoundMarks, SoundWeights}
 use Rattle.moves.proofs.Bound.{bound}
-use Rattle.moves.proofs.Finder.{none}
+use Rattle.moves.proofs.Finding.{none}
 use Rattle.moves.proofs.Laws.{limits-suffice, none-legal-bound}
-use Rattle.moves.proofs.Log.{logged-length}
-use Rattle.moves.proofs.Replay.{replays-shrinks, replays-signature, replays-sound, signature-trans}
+use Rattle.moves.proofs.Logs.{logged-length}
+use Rattle.moves.proofs.Replaying.{replays-shrinks, replays-signature, replays-sound, signature-trans}
 use Rattle.moves.specs.Log.{logged}
 use Rattle.moves.specs.Move.{Legal}
 use Rattle.moves.specs.Replay.{Replays}
