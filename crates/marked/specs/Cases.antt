@@ -9,7 +9,6 @@ use Rattle.circuit.specs.Limits.{maxMembers, maxWires, rowBytes}
 use Rattle.circuit.specs.OddSet.{members, oddSet}
 use Rattle.circuit.specs.Read.{noWeights, read}
 use Rattle.circuit.specs.Sound.{SoundRows}
-use Rattle.moves.proofs.Product.{place}
 use Rattle.moves.specs.CarryOut.{carryOut}
 use Rattle.moves.specs.Move.{Legal}
 use Rattle.phase.specs.Coefficients.{c, l, q}

@@ -1,7 +1,7 @@
 -- A test for each claim, to be computed: where it holds, so does the claim.
 use mathlib.Core.Bool.{_&&_, Bool, false, true}
 use mathlib.Core.List.{List, [], _∷_}
-use mathlib.Core.Path.{ap₂, refl, _≡_}
+use mathlib.Core.Path.{ap₂, _≡_}
 use Prim.Native.Nat.{_<_, _^_, ℕ}
 use native.Mathlib.Omega.{arith}
 use lib.Dec.{T, eqb, eqb→eq, ltb, ltb→lt}
@@ -11,34 +11,13 @@ use Rattle.circuit.specs.Limits.{maxMembers, maxWires}
 use Rattle.circuit.specs.OddSet.{members, oddSet}
 use Rattle.circuit.specs.Read.{read}
 use Rattle.gf2.specs.Selection.{combine}
-use Rattle.moves.proofs.Decide.{every-at, legal-decided}
-use Rattle.moves.proofs.Product.{place}
+use Rattle.moves.proofs.Deciding.{T-both, every-at, legal-decided, same-decided}
 use Rattle.moves.specs.CarryOut.{carryOut}
-use Rattle.moves.specs.Decide.{every, isLegal}
+use Rattle.moves.specs.Decide.{every, isLegal, sameBytes}
 use Rattle.phase.specs.Coefficients.{c, l, q}
 use Rattle.marked.specs.Cases.{AllClaimed, Case, Claim, coefficients, dependent, leaves, reads, refuses, rowsWith, weightsWith}
 use Rattle.circuit.specs.declared.Reply.{Reply}
 use Rattle.circuit.specs.declared.Reply.the-variants.{Done, Refused}
-
-both : (a b : Bool) → T (a && b) → T a × T b
-both true b t = (tt, t)
-both false b t = absurd t
-
--- two lists are the same
-unfoldable pub same : List ℕ → List ℕ → Bool
-same [] [] = true
-same [] (y ∷ ys) = false
-same (x ∷ xs) [] = false
-same (x ∷ xs) (y ∷ ys) = eqb x y && same xs ys
-
-same-lists : (xs ys : List ℕ) → T (same xs ys) → xs ≡ ys
-unfolding same
-same-lists [] [] t = refl
-same-lists [] (y ∷ ys) t = absurd t
-same-lists (x ∷ xs) [] t = absurd t
-same-lists (x ∷ xs) (y ∷ ys) t =
-    let h = both (eqb x y) (same xs ys) t in
-    ap₂ (λ (a : ℕ) (l : List ℕ). a ∷ l) (eqb→eq x y (h .0)) (same-lists xs ys (h .1))
 
 -- a reply is that refusal
 unfoldable pub isRefusal : Reply → ℕ → ℕ → Bool
@@ -49,7 +28,7 @@ refusal : (r : Reply) (number place : ℕ) → T (isRefusal r number place) → 
 unfolding isRefusal
 refusal Done number place t = absurd t
 refusal (Refused f i) number place t =
-    let h = both (eqb f number) (eqb i place) t in
+    let h = T-both (eqb f number) (eqb i place) .0 t in
     ap₂ (λ (a b : ℕ). Refused a b) (eqb→eq f number (h .0)) (eqb→eq i place (h .1))
 
 -- every coefficient of weights is that number
@@ -79,10 +58,10 @@ c-all n w d t i j k h g f =
 
 unfoldable pub holds : Case → Bool
 holds (reads n gs es rows t odd) =
-    same (read maxWires n gs .weights) (weightsWith es) && (same (read maxWires n gs .rows) (rowsWith rows) && (eqb (tGates gs) t && eqb (members (oddSet (read maxWires n gs .weights))) odd))
+    sameBytes (read maxWires n gs .weights) (weightsWith es) && (sameBytes (read maxWires n gs .rows) (rowsWith rows) && (eqb (tGates gs) t && eqb (members (oddSet (read maxWires n gs .weights))) odd))
 holds (refuses n gs number place) = isRefusal (firstFault n 0 gs) number place
 holds (coefficients n es a b d) = allL n (weightsWith es) a && (allQ n (weightsWith es) b && allC n (weightsWith es) d)
-holds (leaves n es z Y left) = isLegal maxMembers n (weightsWith es) z Y && same (carryOut (weightsWith es) z Y) (weightsWith left)
+holds (leaves n es z Y left) = isLegal maxMembers n (weightsWith es) z Y && sameBytes (carryOut (weightsWith es) z Y) (weightsWith left)
 holds (dependent n rows s) = ltb 0 s && (ltb s (2 ^ n) && eqb (combine s (rowsWith rows)) 0)
 
 pub claimed : (k : Case) → T (holds k) → Claim k
@@ -90,22 +69,22 @@ unfolding holds
 claimed (reads n gs es rows t odd) h =
     let w : List ℕ = read maxWires n gs .weights in
     let s : List ℕ = read maxWires n gs .rows in
-    let a = both (same w (weightsWith es)) (same s (rowsWith rows) && (eqb (tGates gs) t && eqb (members (oddSet w)) odd)) h in
-    let b = both (same s (rowsWith rows)) (eqb (tGates gs) t && eqb (members (oddSet w)) odd) (a .1) in
-    let d = both (eqb (tGates gs) t) (eqb (members (oddSet w)) odd) (b .1) in
-    (same-lists w (weightsWith es) (a .0), same-lists s (rowsWith rows) (b .0), eqb→eq (tGates gs) t (d .0), eqb→eq (members (oddSet w)) odd (d .1))
+    let a = T-both (sameBytes w (weightsWith es)) (sameBytes s (rowsWith rows) && (eqb (tGates gs) t && eqb (members (oddSet w)) odd)) .0 h in
+    let b = T-both (sameBytes s (rowsWith rows)) (eqb (tGates gs) t && eqb (members (oddSet w)) odd) .0 (a .1) in
+    let d = T-both (eqb (tGates gs) t) (eqb (members (oddSet w)) odd) .0 (b .1) in
+    (same-decided w (weightsWith es) .0 (a .0), same-decided s (rowsWith rows) .0 (b .0), eqb→eq (tGates gs) t (d .0), eqb→eq (members (oddSet w)) odd (d .1))
 claimed (refuses n gs number place) h = refusal (firstFault n 0 gs) number place h
 claimed (coefficients n es a b d) h =
     let w : List ℕ = weightsWith es in
-    let s = both (allL n w a) (allQ n w b && allC n w d) h in
-    let t = both (allQ n w b) (allC n w d) (s .1) in
+    let s = T-both (allL n w a) (allQ n w b && allC n w d) .0 h in
+    let t = T-both (allQ n w b) (allC n w d) .0 (s .1) in
     record { l-is = l-all n w a (s .0); q-is = q-all n w b (t .0); c-is = c-all n w d (t .1) }
 claimed (leaves n es z Y left) h =
-    let s = both (isLegal maxMembers n (weightsWith es) z Y) (same (carryOut (weightsWith es) z Y) (weightsWith left)) h in
-    (legal-decided maxMembers n (weightsWith es) z Y .0 (s .0), same-lists (carryOut (weightsWith es) z Y) (weightsWith left) (s .1))
+    let s = T-both (isLegal maxMembers n (weightsWith es) z Y) (sameBytes (carryOut (weightsWith es) z Y) (weightsWith left)) .0 h in
+    (legal-decided maxMembers n (weightsWith es) z Y .0 (s .0), same-decided (carryOut (weightsWith es) z Y) (weightsWith left) .0 (s .1))
 claimed (dependent n rows s) h =
-    let a = both (ltb 0 s) (ltb s (2 ^ n) && eqb (combine s (rowsWith rows)) 0) h in
-    let b = both (ltb s (2 ^ n)) (eqb (combine s (rowsWith rows)) 0) (a .1) in
+    let a = T-both (ltb 0 s) (ltb s (2 ^ n) && eqb (combine s (rowsWith rows)) 0) .0 h in
+    let b = T-both (ltb s (2 ^ n)) (eqb (combine s (rowsWith rows)) 0) .0 (a .1) in
     λ sound. sound .free s (omega (arith, ltb→lt 0 s (a .0))) (ltb→lt s (2 ^ n) (b .0)) (eqb→eq (combine s (rowsWith rows)) 0 (b .1))
 
 -- every case of a list holds
@@ -116,4 +95,4 @@ allHold (k ∷ ks) = holds k && allHold ks
 pub all-claimed : (ks : List Case) → T (allHold ks) → AllClaimed ks
 unfolding allHold
 all-claimed [] t = tt
-all-claimed (k ∷ ks) t = let h = both (holds k) (allHold ks) t in (claimed k (h .0), all-claimed ks (h .1))
+all-claimed (k ∷ ks) t = let h = T-both (holds k) (allHold ks) .0 t in (claimed k (h .0), all-claimed ks (h .1))
