@@ -1,3 +1,4 @@
 pub mod Whole
 pub mod Counted
 pub mod Making
+pub mod Calls

@@ -4,6 +4,7 @@
 
 pub mod counting;
 pub mod logging;
+pub mod tables;
 
 // The counts of a trim: T and T dagger gates of C, the size of its odd set, T and T dagger gates of D, the moves in the log, the gates
 // of D.

@@ -1,0 +1,28 @@
+// The tables that the trim works on, each by one call of a public entry on local arrays: the entry cannot refuse them.
+ghost use mathlib.Core.Path.{_≡_};
+ghost use Prim.Native.Nat.{_≤_};
+ghost use Rattle.circuit.specs.Limits.{maxWires, weightBytes};
+ghost use Rattle.circuit.specs.OddSet.{oddSet};
+ghost use Rattle.circuit.specs.Sound.{SoundMarks, SoundWeights};
+ghost use Rattle.phase.specs.NewWeights.{newWeights};
+use circuit::limits::{WEIGHT_BYTES, Weight};
+
+// The odd set of sound weights.
+pub fn odd_marks(n: usize, w: [Weight; WEIGHT_BYTES]) -> [u8; WEIGHT_BYTES]
+    requires { ⌜ (1 ≤ n) × (n ≤ maxWires) × SoundWeights weightBytes n w ⌝ }
+    ensures { λ r. ⌜ r ≡ oddSet w ⌝ }
+{
+    let mut marks = [0u8; WEIGHT_BYTES];
+    weights::odd_set(n, &w, &mut marks);
+    marks
+}
+
+// The new weights for sound weights and sound marks.
+pub fn weights_for(n: usize, w: [Weight; WEIGHT_BYTES], marks: [u8; WEIGHT_BYTES]) -> [Weight; WEIGHT_BYTES]
+    requires { ⌜ (1 ≤ n) × (n ≤ maxWires) × SoundWeights weightBytes n w × SoundMarks weightBytes n marks ⌝ }
+    ensures { λ r. ⌜ r ≡ newWeights weightBytes n w marks ⌝ }
+{
+    let mut new = [0 as Weight; WEIGHT_BYTES];
+    weights::new_weights(n, &w, &marks, &mut new);
+    new
+}
