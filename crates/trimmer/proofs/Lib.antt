@@ -2,3 +2,4 @@ pub mod Whole
 pub mod Counted
 pub mod Making
 pub mod Calls
+pub mod TrimWays

@@ -3,6 +3,7 @@
 // Trimmed of specs/Trimmed.
 
 pub mod counting;
+pub mod faults;
 pub mod logging;
 pub mod tables;
 
