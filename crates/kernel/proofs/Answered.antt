@@ -1,15 +1,14 @@
 -- From what the slots say of the columns of a and b to legal moves: a column that came down to 0 makes one, and two that were stopped leave none.
 use mathlib.Core.List.{List}
 use mathlib.Core.Logic.{_≢_, _⊎_, inl, inr}
-use mathlib.Core.Path.{_∙_, _≡_, ap, refl, subst, sym}
-use Prim.Native.Nat.{_+_, _<_, _^_, _≤_, ℕ}
+use mathlib.Core.Path.{_∙_, _≡_, refl, subst, sym}
+use Prim.Native.Nat.{_<_, ℕ}
 use native.Mathlib.Nat.{le-refl}
 use native.Mathlib.Omega.{arith}
 use lib.Bits.{bitXor, xor-comm, xor-lt}
 use lib.Count.{trailingZeros}
 use lib.ListN.{getD, length}
 use Rattle.circuit.specs.Limits.{maxMembers, maxWires, productBits, weightBytes}
-use Rattle.circuit.specs.Sound.{SoundMarks}
 use Rattle.gf2.proofs.Basis.{basis-same}
 use Rattle.gf2.proofs.Leading.{lowest}
 use Rattle.gf2.proofs.Pairing.{xor-equal}

@@ -2,10 +2,10 @@
 use mathlib.Core.List.{List}
 use mathlib.Core.Logic.{_≢_, _⊎_, inl, inr}
 use mathlib.Core.Path.{_∙_, _≡_, ap, refl, sym}
-use Prim.Native.Nat.{_+_, _<_, _≤_, ℕ}
+use Prim.Native.Nat.{_+_, ℕ}
 use native.Mathlib.Decide.{ℕ-discrete}
 use native.Mathlib.Omega.{arith}
-use lib.ListN.{getD, length, replicate}
+use lib.ListN.{getD, replicate}
 use Rattle.circuit.specs.Limits.{productBits}
 use Rattle.echelon.specs.Slots.{Slots}
 use Rattle.gf2.proofs.Basis.{basis-more, basis-none, basis-same, members-long}

@@ -1,17 +1,16 @@
 -- Spelling a mask out, and listing the marks, one turn of each loop after the other.
-use mathlib.Core.List.{List, [], _++_, _∷_}
+use mathlib.Core.List.{List}
 use mathlib.Core.Logic.{_≢_}
 use mathlib.Core.Path.{_∙_, _≡_, ap, refl, subst, sym}
-use Prim.Native.Nat.{_%_, _+_, _-_, _/_, _<_, _^_, _≤_, suc, ℕ}
+use Prim.Native.Nat.{_%_, _+_, _-_, _/_, _<_, _^_, _≤_, ℕ}
 use native.Mathlib.Decide.{ℕ-discrete}
 use native.Mathlib.Omega.{arith}
 use lib.ListN.{getD, length, length-set, replicate, set}
 use Rattle.circuit.specs.Limits.{maxMembers, moveBytes, productBits, weightBytes}
-use Rattle.gf2.proofs.Bit.{bit-lt}
 use Rattle.gf2.specs.Bit.{bit}
 use Rattle.gf2.specs.Sum.{sum}
 use Rattle.moves.proofs.Flips.{flip-bits}
-use Rattle.moves.proofs.Log.{bytes-count, bytes-length, bytes-more, bytes-none}
+use Rattle.moves.proofs.Log.{bytes-count, bytes-more, bytes-none}
 use Rattle.moves.proofs.Sets.{listed-length, listed-off, listed-on, listed-room}
 use Rattle.moves.proofs.Spell.{spell-bits, spell-few, spell-length, spell-off, spell-on, toggled-few}
 use Rattle.moves.specs.CarryOut.{flip}
