@@ -42,3 +42,17 @@ maxMoves = weightBytes - 1
 
 abbrev pub logBytes : ℕ
 logBytes = moveBytes * maxMoves
+-- the coefficients of two wires, and of three: one byte for each two, and for each three
+abbrev pub pairBytes : ℕ
+pairBytes = maxWires * maxWires
+
+abbrev pub tripleBytes : ℕ
+tripleBytes = maxWires * pairBytes
+
+-- a weight is 0 to 7
+abbrev pub maxWeight : ℕ
+maxWeight = 7
+
+-- a mark is 0 or 1
+abbrev pub maxMark : ℕ
+maxMark = 1

@@ -29,9 +29,18 @@ pub const MOVE_BYTES: usize = MAX_MEMBERS + 2;
 pub const MAX_MOVES: usize = WEIGHT_BYTES - 1;
 
 pub const LOG_BYTES: usize = MOVE_BYTES * MAX_MOVES;
+// One byte for each two wires, and for each three.
+pub const PAIR_BYTES: usize = MAX_WIRES * MAX_WIRES;
+
+pub const TRIPLE_BYTES: usize = MAX_WIRES * PAIR_BYTES;
 
 // A parity: bit i for wire i.
 pub type Parity = u8;
 
 // A weight, 0 to 7.
 pub type Weight = u8;
+
+pub const MAX_WEIGHT: Weight = 7;
+
+// A mark, 0 or 1.
+pub const MAX_MARK: u8 = 1;
