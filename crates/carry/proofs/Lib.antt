@@ -1,1 +1,4 @@
 pub mod Turns
+pub mod Deciding
+pub mod Columns
+pub mod Conditions

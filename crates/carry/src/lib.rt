@@ -4,6 +4,7 @@ ghost use Rattle.circuit.specs.Limits.{moveBytes};
 ghost use Rattle.moves.specs.Log.{moveAt};
 
 pub mod flips;
+pub mod legality;
 
 use circuit::limits::MOVE_BYTES;
 

@@ -3,7 +3,6 @@ use mathlib.Core.Path.{_∙_, _≡_, ap, sym}
 use Prim.Native.Nat.{_%_, _*_, _+_, _-_, _/_, _<_, _^_, suc, ℕ}
 use native.Mathlib.Omega.{arith}
 use lib.Pow.{field, high, low, mod-mod-pow, pow-add, shr-shr}
-use Rattle.gf2.proofs.Digits.{digits-lt}
 use Rattle.gf2.specs.Bit.{bit}
 use lib.Arith as numbers
 

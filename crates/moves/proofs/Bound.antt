@@ -20,7 +20,7 @@ use Rattle.gf2.specs.Selection.{combine}
 use Rattle.gf2.specs.Sum.{delta}
 use Rattle.moves.proofs.Even.{Even, even-add, even-by, even-scale}
 use Rattle.moves.proofs.Keep.{member-lt}
-use Rattle.moves.proofs.Product.{product-bit, product-lt}
+use Rattle.moves.proofs.Products.{product-bit, product-lt}
 use Rattle.moves.proofs.Sets.{Rising, ascending, in-occ, listed-le, listed-length, listed-rising, occ, occ-below, rising-weaken}
 use Rattle.moves.specs.Move.{Balanced, Legal, Member, triple}
 use Rattle.moves.specs.Product.{product, tri}
@@ -129,7 +129,7 @@ chosen-some s (y ∷ ys) ne l = rw (first-sum (s % 2) (λ y. 1) y (chosen (s / 2
 -- ---- a legal move where members crowd
 
 -- a move that is there
-pub record Movable (most n : ℕ) (marks : List ℕ) : Type 0 where
+record Movable (most n : ℕ) (marks : List ℕ) : Type 0 where
   pub z : ℕ
   pub Y : List ℕ
   pub legal : Legal most n marks z Y

@@ -1,7 +1,7 @@
 -- The laws of moves on one page, for every n: `size` is the number of marks, `most` the most that Y may have. The proofs are in the modules named.
 use mathlib.Core.List.{List, map}
 use mathlib.Core.Logic.{_↔_, _≢_}
-use mathlib.Core.Path.{_≡_, refl}
+use mathlib.Core.Path.{_≡_, ap, refl}
 use Prim.Native.Nat.{_*_, _+_, _/_, _<_, _^_, _≤_, ℕ}
 use native.Mathlib.Nat.{le-refl}
 use native.Mathlib.Omega.{arith}
@@ -10,7 +10,7 @@ use lib.Count.{trailingZeros}
 use lib.Dec.{T}
 use lib.ListN.{length}
 use lib.Pow.{pow-mono}
-use Rattle.circuit.specs.Limits.{maxMembers, maxWires, productBits, weightBytes}
+use Rattle.circuit.specs.Limits.{logBytes, maxMembers, maxWires, moveBytes, productBits, weightBytes}
 use Rattle.circuit.specs.OddSet.{members, oddSet}
 use Rattle.circuit.specs.Sound.{SoundMarks}
 use Rattle.gf2.proofs.Leading.{lowest}
@@ -18,13 +18,13 @@ use Rattle.gf2.specs.Bit.{bit}
 use Rattle.gf2.specs.Over.{Below, xorAll}
 use Rattle.phase.specs.Signature.{SameSignature}
 use Rattle.moves.proofs.Bound.{bound}
-use Rattle.moves.proofs.Decide.{move-decided}
-use Rattle.moves.proofs.Kappa.{balanced-iff}
+use Rattle.moves.proofs.Deciding.{move-decided}
 use Rattle.moves.proofs.Keep.{keeps, odd-set-signature, sound-kept}
-use Rattle.moves.proofs.Log.{bytes-unique}
-use Rattle.moves.proofs.Pair.{none-reached, offer-iff}
-use Rattle.moves.proofs.Product.{product-bit, product-by-bits, product-lt, tri-mono, tri-square}
-use Rattle.moves.proofs.Replay.{replays-shrinks, replays-signature}
+use Rattle.moves.proofs.Logs.{bytes-unique}
+use Rattle.moves.proofs.OneXor.{balanced-iff}
+use Rattle.moves.proofs.Pairs.{none-reached, offer-iff}
+use Rattle.moves.proofs.Products.{product-bit, product-by-bits, product-lt, tri-mono, tri-square}
+use Rattle.moves.proofs.Replaying.{replays-shrinks, replays-signature}
 use Rattle.moves.proofs.Shrink.{shrinks}
 use Rattle.moves.proofs.Wires.{legal-wires}
 use Rattle.moves.specs.CarryOut.{carryOut}
@@ -83,6 +83,9 @@ module _ (size n most : ℕ) (room : 2 ^ n ≤ size) (marks : List ℕ) (sound :
       → (z : ℕ) (Y : List ℕ) → Legal most n marks z Y → ⊥
   none-exact = none-reached size n most room marks sound (trailingZeros n) (λ z ne l. lowest n n z (le-refl _) ne l)
 
+pub bound-number : (n : ℕ) → tri n + 1 ≡ (n * n + n) / 2 + 1
+bound-number n = ap (λ (x : ℕ). x + 1) (tri-square n)
+
 -- the xor of Y is 0 and every triple condition holds, exactly where one xor is 0
 pub one-xor : (n z t : ℕ) → t < n → bit z t ≡ 1 → (Y : List ℕ) → Below (2 ^ n) Y → Balanced n z Y ↔ (xorAll (map (kappa n z t) Y) ≡ 0)
 one-xor = balanced-iff
@@ -119,3 +122,7 @@ limits-suffice n h = (pow-mono {i = n} {j = maxWires} h, few, refl)
   where
     few : n * (n + 1) / 2 + 1 ≤ maxMembers
     few = omega (arith, tri-mono n maxWires h)
+
+-- document 01's numbers: entries of 36 bits, forty bytes a move, a log of 10,200
+pub limits-numbers : (productBits ≡ 36) × (moveBytes ≡ 40) × (logBytes ≡ 10200)
+limits-numbers = (refl, refl, refl)

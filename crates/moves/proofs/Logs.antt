@@ -1,5 +1,6 @@
 -- The bytes of a move say which move it is; and what a log keeps when more is written to it.
 use mathlib.Core.List.{List, [], _++_, _∷_, append-assoc}
+use mathlib.Core.Logic.{_↔_}
 use mathlib.Core.Path.{_∙_, _≡_, ap, ap₂, refl, sym}
 use Prim.Native.Nat.{_*_, _+_, _-_, _<_, _≤_, suc, zero, ℕ}
 use native.Mathlib.Decide.{decLt}
@@ -7,10 +8,9 @@ use native.Mathlib.Omega.{arith}
 use lib.ListN.{drop, getD, length, length-append, length-drop, length-replicate, replicate, set, take, take-append-drop}
 use lib.Seq.{drop-at, ext-getD, getD-append-add, getD-drop, length-take-le, set-append-seam, take-add, take-append-seam, take-at, take-take}
 use borrow.Author.Tests.{le-leb, lt-leb}
-use Rattle.circuit.specs.Entry.{after}
 use Rattle.gf2.proofs.Combination.{getD-zeros}
-use Rattle.moves.proofs.Product.{place}
-use Rattle.moves.specs.Log.{asBytes, logged, moveAt, setOf, zOf}
+use Rattle.moves.specs.Log.{LegalBytes, asBytes, logged, moveAt, setOf, zOf}
+use Rattle.moves.specs.Move.{Legal}
 
 -- ---- the bytes of a move
 
@@ -82,6 +82,26 @@ said-bytes most (z ∷ c ∷ rest) len few zeroes =
     left =
         ext-getD 0 (drop c rest) (replicate (most - c) 0) (omega (arith, length-drop c rest, length-replicate {A = ℕ} (most - c) 0))
         (λ i l. getD-drop c rest i 0 ∙ zeroes (suc (suc (c + i))) (omega arith) (omega (arith, length-drop c rest)) ∙ sym (getD-zeros (most - c) i))
+
+-- what code can look at, one after another, where bytes are to be a legal move
+pub record Checked (most n : ℕ) (marks bytes : List ℕ) : Type 0 where
+  pub long : length bytes ≡ most + 2
+  pub count : getD bytes 1 0 ≤ most
+  pub zeroes : (i : ℕ) → getD bytes 1 0 + 2 ≤ i → i < most + 2 → getD bytes i 0 ≡ 0
+  pub legal : Legal most n marks (zOf bytes) (setOf bytes)
+
+pub bytes-checked : (most n : ℕ) (marks bytes : List ℕ) → LegalBytes most n marks bytes ↔ Checked most n marks bytes
+bytes-checked most n marks bytes = (
+  λ f. let s = bytes-say most (f .z) (f .Y) bytes (f .is) in
+      let c : getD bytes 1 0 ≡ length (f .Y) = ap (λ (b : List ℕ). getD b 1 0) (f .is) ∙ bytes-count most (f .z) (f .Y) in
+      record {
+        long = ap length (f .is) ∙ bytes-length most (f .z) (f .Y) (f .legal .few);
+        count = omega (arith, f .legal .few);
+        zeroes = λ i l h. ap (λ (b : List ℕ). getD b i 0) (f .is) ∙ bytes-rest most (f .z) (f .Y) i (omega arith);
+        legal = rw (s .0, s .1) (f .legal);
+      },
+  λ h. record { z = zOf bytes; Y = setOf bytes; is = said-bytes most bytes (h .long) (h .count) (h .zeroes); legal = h .legal },
+)
 
 -- ---- a log
 

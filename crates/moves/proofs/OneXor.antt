@@ -15,7 +15,7 @@ use Rattle.gf2.proofs.SixBits.{seven-bits, six-bits}
 use Rattle.gf2.specs.Bit.{bit}
 use Rattle.gf2.specs.Over.{Below, sumOver, xorAll}
 use Rattle.moves.proofs.Even.{Even, even-add, even-bit, even-by, even-scale, triples-all}
-use Rattle.moves.proofs.Product.{Place, place, place-lt, product-bit, product-lt}
+use Rattle.moves.proofs.Products.{Place, place, place-lt, product-bit, product-lt}
 use Rattle.moves.specs.Kappa.{bar, kappa}
 use Rattle.moves.specs.Move.{Balanced, triple}
 use Rattle.moves.specs.Product.{product, tri}

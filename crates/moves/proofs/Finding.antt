@@ -23,9 +23,9 @@ use Rattle.gf2.specs.Selection.{combine}
 use Rattle.gf2.specs.Sum.{delta, sum}
 use Rattle.moves.proofs.Flips.{flip-bits}
 use Rattle.moves.proofs.Keep.{member-lt}
-use Rattle.moves.proofs.Pair.{legal-listed, reach}
+use Rattle.moves.proofs.Pairs.{legal-listed, reach}
 use Rattle.moves.proofs.Sets.{listed-more}
-use Rattle.moves.proofs.Spell.{Room, spell-bits, spell-few, spell-from, spell-length, spell-xor}
+use Rattle.moves.proofs.Spelling.{Room, spell-bits, spell-few, spell-from, spell-length, spell-xor}
 use Rattle.moves.specs.CarryOut.{flip}
 use Rattle.moves.specs.Kappa.{kappa}
 use Rattle.moves.specs.Move.{Legal, Member}

@@ -15,8 +15,8 @@ use Rattle.gf2.proofs.Sum.{delta-other, delta-same}
 use Rattle.gf2.specs.Bit.{bit}
 use Rattle.gf2.specs.Over.{Below, sumOver, xorAll}
 use Rattle.gf2.specs.Sum.{delta, sum}
-use Rattle.moves.proofs.Kappa.{balanced-iff}
 use Rattle.moves.proofs.Keep.{member-lt, y-lt}
+use Rattle.moves.proofs.OneXor.{balanced-iff}
 use Rattle.moves.proofs.Sets.{in-listed, in-occ, listed-ascending, listed-in, listed-length, listed-more, listed-occ, listed-sum, occ, occ-in, occ-once, occ-out, out-occ, rising, sumOver-occ}
 use Rattle.moves.specs.Kappa.{kappa}
 use Rattle.moves.specs.Move.{Legal, Member, Separates}

@@ -13,7 +13,7 @@ use lib.ListN.{getD, length}
 use Rattle.circuit.specs.Sound.{weight}
 use Rattle.gf2.proofs.Xor.{xor-cancel}
 use Rattle.gf2.specs.Over.{sumOver, xorAll}
-use Rattle.moves.proofs.Log.{bytes-say}
+use Rattle.moves.proofs.Logs.{bytes-say}
 use Rattle.moves.specs.Decide.{any, areMembers, every, isAscending, isBalanced, isIn, isLegal, isMember, isMove, isSeparating, sameBytes}
 use Rattle.moves.specs.Log.{LegalBytes, asBytes, setOf, zOf}
 use Rattle.moves.specs.Move.{Balanced, Legal, Member, Separates, triple}
