@@ -15,7 +15,7 @@ use Rattle.gf2.proofs.Pairing.{xor-equal}
 use Rattle.gf2.proofs.Table.{getD-tabulate}
 use Rattle.gf2.specs.Bit.{bit}
 use Rattle.gf2.specs.Echelon.{Basis, Reached, Stopped}
-use Rattle.moves.proofs.Finder.{found, none, others-swap}
+use Rattle.moves.proofs.Finding.{found, none, others-swap}
 use Rattle.moves.proofs.Keep.{member-lt}
 use Rattle.moves.proofs.Sets.{in-occ, occ, occ-in}
 use Rattle.moves.specs.Kappa.{kappa}

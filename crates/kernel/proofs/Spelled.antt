@@ -10,9 +10,9 @@ use Rattle.circuit.specs.Limits.{maxMembers, moveBytes, productBits, weightByte
 use Rattle.gf2.specs.Bit.{bit}
 use Rattle.gf2.specs.Sum.{sum}
 use Rattle.moves.proofs.Flips.{flip-bits}
-use Rattle.moves.proofs.Log.{bytes-count, bytes-more, bytes-none}
+use Rattle.moves.proofs.Logs.{bytes-count, bytes-more, bytes-none}
 use Rattle.moves.proofs.Sets.{listed-length, listed-off, listed-on, listed-room}
-use Rattle.moves.proofs.Spell.{spell-bits, spell-few, spell-length, spell-off, spell-on, toggled-few}
+use Rattle.moves.proofs.Spelling.{spell-bits, spell-few, spell-length, spell-off, spell-on, toggled-few}
 use Rattle.moves.specs.CarryOut.{flip}
 use Rattle.moves.specs.Log.{asBytes}
 use Rattle.moves.specs.Pair.{spell, spelled}
