@@ -11,10 +11,10 @@ use lib.Count.{trailingZeros}
 use lib.Dec.{eqb}
 use lib.ListN.{drop, getD, length}
 use lib.Seq.{drop-cons, drop-length}
-use Rattle.columns.proofs.Wires.{lowest-wire}
+use Rattle.gf2.proofs.Leading.{lowest}
 use Rattle.gf2.proofs.Xor.{xor-assoc}
 use Rattle.gf2.specs.Over.{Below, xorAll}
-use Rattle.moves.proofs.Kappa.{balanced-iff}
+use Rattle.moves.proofs.OneXor.{balanced-iff}
 use Rattle.moves.specs.Kappa.{kappa}
 use Rattle.moves.specs.Move.{Balanced}
 use Rattle.carry.proofs.Deciding.{decides-as, decides-equal}
@@ -38,9 +38,9 @@ xor-end f Y i s R e h =
 -- t is the lowest wire of z, and N the most wires
 module _ (N z t : ℕ) (is-wire : t ≡ trailingZeros N z) (some : z ≢ 0) (fits : z < 2 ^ N) where
   pub wire-lt : t < N
-  wire-lt = rw is-wire (lowest-wire N N z (omega arith) some fits .0)
+  wire-lt = rw is-wire (lowest N N z (omega arith) some fits .0)
 
   pub balanced-by-xor : (Y : List ℕ) (s : ℕ) → Below (2 ^ N) Y → s ≡ xorAll (map (kappa N z t) Y) → Decides (eqb s 0) (Balanced N z Y)
   balanced-by-xor Y s h e =
-      let b = balanced-iff N z t wire-lt (rw is-wire (lowest-wire N N z (omega arith) some fits .1)) Y h in
+      let b = balanced-iff N z t wire-lt (rw is-wire (lowest N N z (omega arith) some fits .1)) Y h in
       decides-as (eqb s 0) (λ q. b .1 (sym e ∙ q)) (λ q. e ∙ b .0 q) (decides-equal s 0)

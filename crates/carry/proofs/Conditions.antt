@@ -9,8 +9,8 @@ use lib.Bits.{bitXor}
 use lib.ListN.{drop, getD, length, length-drop}
 use lib.Seq.{length-take-le}
 use Rattle.gf2.proofs.Pairing.{xor-equal}
-use Rattle.moves.proofs.Log.{bytes-count, bytes-length, bytes-rest, bytes-say, said-bytes}
-use Rattle.moves.specs.Log.{LegalBytes, asBytes, setOf, zOf}
+use Rattle.moves.proofs.Logs.{bytes-checked}
+use Rattle.moves.specs.Log.{LegalBytes, setOf, zOf}
 use Rattle.moves.specs.Move.{Balanced, Legal, Separates}
 use Rattle.moves.specs.Sets.{Ascending, In}
 use Rattle.carry.proofs.Deciding.{decides-as}
@@ -26,33 +26,20 @@ pub legal-if-balanced : (most n : ℕ) (marks : List ℕ) (z : ℕ) (Y : List �
 legal-if-balanced most n marks z Y r few ordered marked separates d =
     decides-as r (λ b. record { few = few; ordered = ordered; marked = marked; separates = separates; balanced = b }) (λ g. g .balanced) d
 
--- bytes of this form are those of the move that they say
-pub form-bytes : (most : ℕ) (bytes : List ℕ) → MoveForm most bytes → bytes ≡ asBytes most (zOf bytes) (setOf bytes)
-form-bytes most bytes f = said-bytes most bytes (f .long) (f .few) (λ i l h. f .zeros i (omega arith))
-
-pub bytes-form : (most z : ℕ) (Y bytes : List ℕ) → length Y ≤ most → bytes ≡ asBytes most z Y → MoveForm most bytes
-bytes-form most z Y bytes few e =
-    let count : getD bytes 1 0 ≡ length Y = ap (λ (f : List ℕ). getD f 1 0) e ∙ bytes-count most z Y in
-    record {
-      long = ap length e ∙ bytes-length most z Y few;
-      few = omega arith;
-      zeros = λ i l. ap (λ (f : List ℕ). getD f i 0) e ∙ bytes-rest most z Y i (omega arith);
-    }
-
 pub set-few : (most : ℕ) (bytes : List ℕ) → MoveForm most bytes → length (setOf bytes) ≤ most
 set-few most bytes f = rw (length-take-le (getD bytes 1 0) (drop 2 bytes) (omega (arith, length-drop 2 bytes))) (f .few)
 
+-- bytes are a legal move exactly if they have the form of one and the move that they say is legal
 module _ (most n : ℕ) (marks bytes : List ℕ) where
-  -- and are legal exactly if that move is
+  pub said-legal : MoveForm most bytes → Legal most n marks (zOf bytes) (setOf bytes) → LegalBytes most n marks bytes
+  said-legal f g = bytes-checked most n marks bytes .1 (record { long = f .long; count = f .few; zeroes = λ i l h. f .zeros i l (omega arith); legal = g })
+
   pub legal-said : LegalBytes most n marks bytes → MoveForm most bytes × Legal most n marks (zOf bytes) (setOf bytes)
   legal-said g =
-      let s = bytes-say most (g .z) (g .Y) bytes (g .is) in
-      (bytes-form most (g .z) (g .Y) bytes (g .legal .few) (g .is), rw (s .0, s .1) (g .legal))
-
-  pub said-legal : MoveForm most bytes → Legal most n marks (zOf bytes) (setOf bytes) → LegalBytes most n marks bytes
-  said-legal f g = record { z = zOf bytes; Y = setOf bytes; is = form-bytes most bytes f; legal = g }
+      let h = bytes-checked most n marks bytes .0 g in
+      (record { long = h .long; few = h .count; zeros = λ i l k. h .zeroes i l (omega (arith, h .long)) }, h .legal)
 
   -- for bytes of the form, the move decides; Y is the part of the bytes that code takes for it
-  pub move-if-legal : (Y : List ℕ) (r : Bool) → MoveForm most bytes → Y ≡ setOf bytes → Decides r (Legal most n marks (zOf bytes) Y) → Decides r (LegalBytes most n marks bytes)
-  move-if-legal Y r f e d =
-      decides-as r (λ g. said-legal f (rw (← e) g)) (λ g. rw e (legal-said g .1)) d
+  pub move-if-legal : (Y : List ℕ) (r : Bool) → MoveForm most bytes → Y ≡ setOf bytes → Decides r (Legal most n marks (zOf bytes) Y)
+      → Decides r (LegalBytes most n marks bytes)
+  move-if-legal Y r f e d = decides-as r (λ g. said-legal f (rw (← e) g)) (λ g. rw e (legal-said g .1)) d

@@ -3,14 +3,13 @@ use mathlib.Core.Bool.{Bool, false, not, true}
 use mathlib.Core.List.{List}
 use mathlib.Core.Path.{_∙_, _≡_, refl, sym}
 use Prim.Native.Nat.{_+_, _<_, _≤_, suc, ℕ}
-use native.Mathlib.Decide.{decLt}
 use native.Mathlib.Numerals.{add-one}
 use native.Mathlib.Omega.{arith}
 use lib.Bits.{bitXor}
 use lib.Dec.{eqb}
-use lib.ListN.{List·getD-eq-default, getD, length}
+use lib.ListN.{getD, length}
 use borrow.Author.Tests.{eqb-false, eqb-true, not-false, not-true}
-use Rattle.moves.proofs.Decide.{separates-at}
+use Rattle.moves.proofs.Deciding.{separates-at}
 use Rattle.moves.specs.Move.{Separates}
 use Rattle.moves.specs.Sets.{Ascending, In}
 use Rattle.carry.specs.Decides.{Decides, Outside}
@@ -48,13 +47,6 @@ ascending-all Y i l all j h = rw (← (add-one j)) (all j (omega arith))
 
 pub not-ascending : (Y : List ℕ) (i : ℕ) → i + 1 < length Y → getD Y (i + 1) 0 ≤ getD Y i 0 → Ascending Y → ⊥
 not-ascending Y i l h a = omega (arith, rw (← (add-one i)) at (a i (omega arith)))
-
-pub zero-all : (bytes : List ℕ) (start i : ℕ) → length bytes ≤ i → ((j : ℕ) → j < i → start ≤ j → getD bytes j 0 ≡ 0) → (j : ℕ) → start ≤ j → getD bytes j 0 ≡ 0
-zero-all bytes start i l all j h = go (decLt j i)
-  where
-    go : Dec (j < i) → getD bytes j 0 ≡ 0
-    go (yes g) = all j g h
-    go (no g) = List·getD-eq-default bytes 0 (omega arith)
 
 -- ---- z separates
 

@@ -2,3 +2,5 @@ pub mod Turns
 pub mod Deciding
 pub mod Columns
 pub mod Conditions
+pub mod Ways
+pub mod Laws

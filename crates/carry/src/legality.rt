@@ -7,7 +7,7 @@ ghost use Rattle.circuit.specs.Limits.{maxMembers, maxWires, weightBytes};
 ghost use Rattle.moves.specs.Log.{LegalBytes, setOf};
 ghost use Rattle.moves.specs.Move.{Balanced, Legal, Member, Separates};
 ghost use Rattle.moves.specs.Sets.{Ascending, In};
-ghost use Rattle.carry.specs.Decides.{AllMembers, Decides, MoveForm, Outside};
+ghost use Rattle.carry.specs.Decides.{AllMembers, Decides, MoveForm, Outside, ZeroFrom};
 use circuit::limits::MAX_MEMBERS;
 use circuit::limits::MOVE_BYTES;
 use circuit::limits::Parity;
@@ -33,7 +33,7 @@ pub fn set_of(bytes: &[u8]) -> &[u8]
     requires { ⌜ MoveForm maxMembers (now bytes) ⌝ }
     ensures { λ r. ⌜ now r ≡ setOf (now (bytes .entry)) ⌝ }
 {
-    let end = HEAD + bytes[1] as usize;
+    let end = bytes[1] as usize + HEAD;
     &bytes[HEAD..end]
 }
 
@@ -48,11 +48,11 @@ fn has_form(bytes: &[u8]) -> bool
     if count > MAX_MEMBERS {
         return false;
     }
-    zero_from(bytes, HEAD + count)
+    zero_from(bytes, count + HEAD)
 }
 
 fn zero_from(bytes: &[u8], from: usize) -> bool
-    ensures { λ r. ⌜ Decides r ((i : ℕ) → from ≤ i → getD (now (bytes .entry)) i 0 ≡ 0) ⌝ }
+    ensures { λ r. ⌜ Decides r (ZeroFrom from (now (bytes .entry))) ⌝ }
 {
     let mut i = from;
     while i < bytes.len() {

@@ -42,6 +42,7 @@ maxMoves = weightBytes - 1
 
 abbrev pub logBytes : ℕ
 logBytes = moveBytes * maxMoves
+
 -- the coefficients of two wires, and of three: one byte for each two, and for each three
 abbrev pub pairBytes : ℕ
 pairBytes = maxWires * maxWires

@@ -8,7 +8,7 @@ use lib.Dec.{T, eqb, eqb→eq, ltb, ltb→lt}
 use lib.ListN.{getD, length}
 use Rattle.circuit.specs.Limits.{maxWires, productBits}
 use Rattle.gf2.specs.Bit.{bit}
-use Rattle.moves.proofs.Product.{product-by-bits}
+use Rattle.moves.proofs.Products.{product-by-bits}
 use Rattle.moves.specs.Product.{product, tri}
 use Rattle.columns.proofs.Computed.{below, below-at, both, both-left, both-right, every, every-at}
 use Rattle.columns.specs.Table.{ProductEntry}

@@ -1,30 +1,20 @@
--- The column that code computes, and the wire t that it takes: for fewer wires than the table has room for, the column is the same.
+-- The column that code computes; and for fewer wires than the table has room for, the column is the same.
 use mathlib.Core.Logic.{_≢_}
 use mathlib.Core.Path.{_∙_, _≡_, ap, ap₂, sym}
 use Prim.Native.Nat.{_%_, _*_, _+_, _/_, _<_, _^_, _≤_, ℕ}
-use native.Mathlib.Nat.{lt-of-lt-of-le}
 use native.Mathlib.Omega.{arith}
 use lib.Bits.{bitXor, xor-lt}
-use lib.Count.{trailingZeros}
-use lib.Pow.{pow-mono}
 use Rattle.circuit.proofs.Steps.{shifted}
 use Rattle.circuit.specs.Limits.{maxWires, productBits}
 use Rattle.gf2.proofs.Bit.{bit-lt}
-use Rattle.gf2.proofs.Leading.{bit-inside, bit-lowest}
 use Rattle.gf2.proofs.Selection.{scale-lt}
 use Rattle.gf2.specs.Bit.{bit}
-use Rattle.moves.proofs.Kappa.{kappa-lt, kappa-off, kappa-on}
-use Rattle.moves.proofs.Product.{product-wires}
+use Rattle.moves.proofs.OneXor.{kappa-lt, kappa-off, kappa-on}
+use Rattle.moves.proofs.Products.{product-wires}
 use Rattle.moves.specs.Kappa.{bar, kappa}
 use Rattle.moves.specs.Product.{tri}
 use Rattle.columns.proofs.Entries.{entry-is}
 use Rattle.columns.specs.Table.{ProductEntry}
-
--- the lowest wire of z is a wire of z
-pub lowest-wire : (N n z : ℕ) → n ≤ N → z ≢ 0 → z < 2 ^ n → (trailingZeros N z < n) × (bit z (trailingZeros N z) ≡ 1)
-lowest-wire N n z h ne l =
-    let e : bit z (trailingZeros N z) ≡ 1 = bit-lowest N z ne (lt-of-lt-of-le l (pow-mono h)) in
-    (bit-inside n z (trailingZeros N z) l e, e)
 
 bar-lt : (n z t y : ℕ) → z < 2 ^ n → y < 2 ^ n → bar z t y < 2 ^ n
 unfolding bar

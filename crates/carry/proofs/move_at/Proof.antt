@@ -6,7 +6,7 @@ use lib.ListN.{drop, take}
 use borrow.Author.Needs.{needs}
 use denote.Ref.{now}
 use Rattle.circuit.specs.Limits.{moveBytes}
-use Rattle.moves.proofs.Log.{move-short, move-whole}
+use Rattle.moves.proofs.Logs.{move-short, move-whole}
 use Rattle.carry.proofs.move_at.Statement.{statement}
 use Rattle.carry.proofs.move_at.Tie as tie
 

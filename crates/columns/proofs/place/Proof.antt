@@ -5,7 +5,7 @@ use native.Mathlib.Nat.{mul-le-mul}
 use native.Mathlib.Omega.{arith}
 use borrow.Author.Needs.{needs}
 use Rattle.circuit.specs.Limits.{maxWires}
-use Rattle.moves.proofs.Product.{place-lt}
+use Rattle.moves.proofs.Products.{place-lt}
 use Rattle.moves.specs.Product.{tri}
 use Rattle.columns.proofs.place.Statement.{statement}
 use Rattle.columns.proofs.place.Tie as tie

@@ -17,7 +17,7 @@ slice-write-marks : tie.Need-slice-write-marks
 slice-write-marks c = search needs
 
 same-length : tie.Need-same-length
-same-length c = length-set (c .before .before .turn-if-odd .last .0) 0 0 ∙ c .before .before .turn-if-odd .kept .0 ∙ c .before .before .before .before .before .before .turn-pairs .kept .0
+same-length c = simp length-set (c .before .before .turn-if-odd .kept .0 ∙ c .before .before .before .before .before .before .turn-pairs .kept .0)
 
 returns : tie.Need-returns
 returns c =
