@@ -6,3 +6,12 @@ pub mod Parity
 pub mod Selection
 pub mod Digits
 pub mod Table
+pub mod Over
+pub mod SixBits
+pub mod Cubic
+pub mod Pairing
+pub mod Dependence
+pub mod Leading
+pub mod Combination
+pub mod Echelon
+pub mod Basis

@@ -3,3 +3,5 @@ pub mod Sum
 pub mod Parity
 pub mod Selection
 pub mod Table
+pub mod Over
+pub mod Echelon
