@@ -15,3 +15,6 @@ pub mod Leading
 pub mod Combination
 pub mod Echelon
 pub mod Basis
+pub mod Brute
+pub mod Symmetric
+pub mod Expansion

@@ -22,6 +22,16 @@ unfolding sum
 sum-le zero f g h = omega arith
 sum-le (suc k) f g h = omega (arith, sum-le k f g (λ i l. h i (omega arith)), h k (le-refl _))
 
+-- one term is at most the sum
+pub sum-term : (m q : ℕ) (f : ℕ → ℕ) → q < m → f q ≤ sum m f
+unfolding sum
+sum-term zero q f l = absurd (omega arith)
+sum-term (suc m) q f l = go (ℕ-discrete m q) (λ l′. sum-term m q f l′)
+  where
+    go : Dec (m ≡ q) → (q < m → f q ≤ sum m f) → f q ≤ sum m f + f m
+    go (yes e) r = rw (← e) (omega arith)
+    go (no n) r = omega (arith, r (omega arith))
+
 pub sum-add : (k : ℕ) (f g : ℕ → ℕ) → sum k (λ i. f i + g i) ≡ sum k f + sum k g
 unfolding sum
 sum-add zero f g = refl
@@ -68,7 +78,8 @@ sum-update (suc m) q f g l h = go (ℕ-discrete m q) (λ l′. sum-update m q f 
 pub sum-single : (m q : ℕ) (f : ℕ → ℕ) → q < m → ((p : ℕ) → p < m → p ≢ q → f p ≡ 0) → sum m f ≡ f q
 sum-single m q f l h = omega (arith, sum-update m q f (λ p. 0) l h, sum-zero m)
 
-sum-double : (k : ℕ) (f : ℕ → ℕ) → sum (2 ^ suc k) f ≡ sum (2 ^ k) f + sum (2 ^ k) (λ i. f (2 ^ k + i))
+-- the lower and the upper half
+pub sum-double : (k : ℕ) (f : ℕ → ℕ) → sum (2 ^ suc k) f ≡ sum (2 ^ k) f + sum (2 ^ k) (λ i. f (2 ^ k + i))
 sum-double k f = ap (λ (n : ℕ). sum n f) (two-pow-succ k) ∙ sum-append (2 ^ k) (2 ^ k) f
 
 -- x and y by their top bits a and b and the k low digits

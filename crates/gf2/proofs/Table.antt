@@ -8,7 +8,7 @@ use native.Mathlib.Omega.{arith}
 use lib.ListN.{getD, length, length-set, set}
 use lib.Seq.{ext-getD, getD-set-other, getD-set-same}
 use Rattle.gf2.proofs.Modular.{mod-by}
-use Rattle.gf2.proofs.Sum.{sum-update}
+use Rattle.gf2.proofs.Sum.{sum-ext, sum-update}
 use Rattle.gf2.specs.Sum.{sum}
 use Rattle.gf2.specs.Table.{addAt, tabulate, weightedSum}
 
@@ -23,6 +23,10 @@ weightedSum-addAt m w c q v h =
     ∙ close m _ _ (getD w q 0) v (c q)
     (sum-update (length w) q (λ p. getD w p 0 * c p) (λ p. getD (set w q u) p 0 * c p) h (λ p l ne. rw (getD-set-other w q p u 0 ne))
     ∙ ap (λ (y : ℕ). sum (length w) (λ p. getD w p 0 * c p) + y * c q) (getD-set-same w q u 0 h))
+
+pub weightedSum-ext : (w : List ℕ) (f g : ℕ → ℕ) → ((p : ℕ) → f p ≡ g p) → weightedSum w f ≡ weightedSum w g
+unfolding weightedSum
+weightedSum-ext w f g h = sum-ext (length w) (λ p. getD w p 0 * f p) (λ p. getD w p 0 * g p) (λ p l. ap (λ (t : ℕ). getD w p 0 * t) (h p))
 
 pub length-tabulate : (k : ℕ) (f : ℕ → ℕ) → length (tabulate k f) ≡ k
 unfolding tabulate

@@ -1,1 +1,12 @@
 pub mod Sums
+pub mod Wires
+pub mod WireSums
+pub mod ByCoefficients
+pub mod Converse
+pub mod Lists
+pub mod Rest
+pub mod Added
+pub mod NewWeights
+pub mod Unique
+pub mod Signature
+pub mod Laws

@@ -5,7 +5,6 @@ use mathlib.Core.Path.{_≡_}
 use Prim.Native.Nat.{_%_, _*_, _+_, _-_, _<_, _^_, suc, zero, ℕ}
 use lib.Count.{ones, trailingZeros}
 use lib.ListN.{replicate}
-use Rattle.circuit.proofs.OddSet.{added}
 use Rattle.circuit.specs.Sound.{weight}
 use Rattle.gf2.specs.Sum.{delta, sum}
 use Rattle.gf2.specs.Table.{tabulate}
