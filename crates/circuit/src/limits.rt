@@ -21,3 +21,9 @@ pub type Parity = u8;
 
 // A weight, 0 to 7.
 pub type Weight = u8;
+
+// The longest written list: two gates for each wire of each parity, and MAX_WIRES gates for each row.
+pub const MAX_WRITTEN_GATES: usize = MAX_WIRES * WEIGHT_BYTES + MAX_WIRES * MAX_WIRES;
+
+// The bytes to lend for it.
+pub const WRITE_BYTES: usize = GATE_BYTES * MAX_WRITTEN_GATES;

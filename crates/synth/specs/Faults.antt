@@ -1,0 +1,35 @@
+-- Document 01, "Faults": number 7, of rows, and the checks of a call that writes a list: 1, 8, 6, 7. A fault's number is that of the table; 0 stands for none.
+use mathlib.Core.List.{List, [], _∷_}
+use Prim.Native.Nat.{_-_, _^_, suc, zero, ℕ}
+use lib.Dec.{eqb, leb, ltb}
+use lib.ListN.{length}
+use Rattle.gf2.specs.Selection.{combine}
+use Rattle.circuit.specs.Faults.{lentOutput, orElse, wiresFault}
+use Rattle.circuit.specs.Limits.{rowBytes, writeBytes}
+use Rattle.circuit.specs.Read.{either}
+
+-- rows not 8 bytes, a bit or row beyond n, or not invertible
+abbrev pub rowRule : ℕ
+rowRule = 7
+
+-- row i is below this: no bit beyond n, and 0 from row n on
+abbrev pub rowLimit : ℕ → ℕ → ℕ
+rowLimit n i = either (ltb i n) (2 ^ n) 1
+
+-- the rows, the first of which is row i
+unfoldable pub beyondFault : ℕ → ℕ → List ℕ → ℕ
+beyondFault n i [] = 0
+beyondFault n i (row ∷ rows) = either (ltb row (rowLimit n i)) (beyondFault n (suc i) rows) rowRule
+
+-- some combination of the rows, that of a mask from 1 to k, is 0
+unfoldable pub cancelFault : ℕ → List ℕ → ℕ
+cancelFault zero rows = 0
+cancelFault (suc k) rows = either (eqb (combine (suc k) rows) 0) rowRule (cancelFault k rows)
+
+-- N rows for n wires: their number, the bits and rows beyond n, and every combination of rows 0 to n - 1 but the empty one
+unfoldable pub rowsFault : ℕ → ℕ → List ℕ → ℕ
+rowsFault N n rows = either (eqb (length rows) N) (orElse (beyondFault n 0 rows) (cancelFault (2 ^ n - 1) rows)) rowRule
+
+-- lent gates too short for the longest written list
+abbrev pub roomFault : ℕ → ℕ
+roomFault gates = either (leb writeBytes gates) 0 lentOutput

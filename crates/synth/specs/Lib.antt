@@ -1,0 +1,4 @@
+pub mod Spelling
+pub mod Faults
+pub mod Writing
+pub mod Storing
