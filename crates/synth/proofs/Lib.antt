@@ -6,3 +6,8 @@ pub mod Spelled
 pub mod KindCounts
 pub mod OneParity
 pub mod AllParities
+pub mod Pivots
+pub mod MaskSteps
+pub mod RowsWritten
+pub mod PhaseTurns
+pub mod RowTurns

@@ -43,6 +43,9 @@ module _ (g g′ : List ℕ) (k k′ : ℕ) (xs ys : List Gate) (a : Stored g g�
   pub room-then : Room g k (xs ++ ys) → Room g′ k′ ys
   room-then r = omega (arith, a .count, length-append xs ys, ap length (a .bytes), length-sets g (gateBytes * k) (bytesOf xs))
 
+pub stored-same : (g g′ : List ℕ) (k k′ : ℕ) (xs : List Gate) → Stored g g′ k k′ xs → length g′ ≡ length g
+stored-same g g′ k k′ xs a = ap length (a .bytes) ∙ length-sets g (gateBytes * k) (bytesOf xs)
+
 -- and for the first part
 pub room-first : (g : List ℕ) (k : ℕ) (xs ys : List Gate) → Room g k (xs ++ ys) → Room g k xs
 room-first g k xs ys r = omega (arith, length-append xs ys)

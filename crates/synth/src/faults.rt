@@ -1,0 +1,1 @@
+// Fault 7 of document 01.
