@@ -35,3 +35,17 @@ maxWrittenGates = writtenGates maxWires
 -- the bytes to lend for it
 abbrev pub writeBytes : ℕ
 writeBytes = gateBytes * maxWrittenGates
+-- the coefficients of two wires, and of three: one byte for each two, and for each three
+abbrev pub pairBytes : ℕ
+pairBytes = maxWires * maxWires
+
+abbrev pub tripleBytes : ℕ
+tripleBytes = maxWires * pairBytes
+
+-- a weight is 0 to 7
+abbrev pub maxWeight : ℕ
+maxWeight = 7
+
+-- a mark is 0 or 1
+abbrev pub maxMark : ℕ
+maxMark = 1

@@ -16,6 +16,11 @@ pub const WEIGHT_BYTES: usize = 1 << MAX_WIRES;
 // One parity for each wire.
 pub const ROW_BYTES: usize = MAX_WIRES;
 
+// One byte for each two wires, and for each three.
+pub const PAIR_BYTES: usize = MAX_WIRES * MAX_WIRES;
+
+pub const TRIPLE_BYTES: usize = MAX_WIRES * PAIR_BYTES;
+
 // A parity: bit i for wire i.
 pub type Parity = u8;
 
@@ -27,3 +32,7 @@ pub const MAX_WRITTEN_GATES: usize = MAX_WIRES * WEIGHT_BYTES + MAX_WIRES * MAX_
 
 // The bytes to lend for it.
 pub const WRITE_BYTES: usize = GATE_BYTES * MAX_WRITTEN_GATES;
+pub const MAX_WEIGHT: Weight = 7;
+
+// A mark, 0 or 1.
+pub const MAX_MARK: u8 = 1;

@@ -8,7 +8,7 @@ use Rattle.circuit.specs.Says.{phaseAt}
 use Rattle.circuit.specs.Sound.{SoundMarks, SoundWeights}
 use Rattle.phase.proofs.ByCoefficients.{phase-by-coefficients, same-phases}
 use Rattle.phase.proofs.Converse.{coefficients-back, phases-iff}
-use Rattle.phase.proofs.Lists.{marks-weights}
+use Rattle.phase.proofs.Lists.{marks-weights, odd-sound}
 use Rattle.phase.proofs.NewWeights.{new-oddSet, new-phases, new-shape, new-sound}
 use Rattle.phase.proofs.Signature.{oddSet-sums, signature-iff}
 use Rattle.phase.proofs.Sums.{SameSums, signature-sums}
@@ -32,6 +32,10 @@ three-wires-suffice n v w s x h = same-phases n v w (coefficients-back n v w s) 
 -- the odd set has the signature of its weights
 pub odd-set-has-signature : (n : ℕ) (w : List ℕ) → SameSignature n (oddSet w) w
 odd-set-has-signature n w = signature-sums n (oddSet w) w .1 (oddSet-sums n w)
+
+-- and is sound where they are
+pub odd-set-is-sound : (size n : ℕ) (w : List ℕ) → SoundWeights size n w → SoundMarks size n (oddSet w)
+odd-set-is-sound = odd-sound
 
 module _ (size n : ℕ) (room : 2 ^ n ≤ size) where
   -- (c) equal signature, exactly where the phases differ by what even weights alone can make

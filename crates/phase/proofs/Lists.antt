@@ -6,6 +6,8 @@ use native.Mathlib.Decide.{decLt}
 use native.Mathlib.Omega.{arith}
 use lib.ListN.{List·getD-append, getD, length, length-append, length-replicate, replicate}
 use lib.Seq.{ext-getD, getD-append-add}
+use Rattle.circuit.proofs.OddSet.{length-odd, odd-mark}
+use Rattle.circuit.specs.OddSet.{oddSet}
 use Rattle.circuit.specs.Sound.{SoundMarks, SoundWeights, weight}
 use Rattle.gf2.proofs.Modular.{mul-mod-l}
 use Rattle.gf2.proofs.Sum.{sum-add, sum-append, sum-ext, sum-mod, sum-zero}
@@ -25,6 +27,16 @@ wide size n w h s = record { room = omega (arith, s .long); high = s .high }
 -- marks are weights
 pub marks-weights : (size n : ℕ) (marks : List ℕ) → SoundMarks size n marks → SoundWeights size n marks
 marks-weights size n marks s = record { long = s .long; small = λ p. omega (arith, s .bits p); none = s .none; high = s .high }
+
+-- the odd set of sound weights is sound
+pub odd-sound : (size n : ℕ) (w : List ℕ) → SoundWeights size n w → SoundMarks size n (oddSet w)
+odd-sound size n w s =
+    record {
+      long = length-odd w ∙ s .long;
+      bits = λ p. rw (odd-mark w p) (omega arith);
+      none = odd-mark w 0 ∙ rw (s .none);
+      high = λ p h. odd-mark w p ∙ rw (s .high p h);
+    }
 
 pub weightedSum-wide : (n : ℕ) (w : List ℕ) → Wide n w → (f : ℕ → ℕ) → weightedSum w f ≡ sum (2 ^ n) (λ p. weight w p * f p)
 unfolding weightedSum

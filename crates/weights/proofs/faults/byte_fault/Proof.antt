@@ -1,0 +1,18 @@
+-- One byte against the most that may stand at its place.
+use native.Mathlib.Omega.{arith}
+use borrow.Author.Needs.{needs}
+use Rattle.weights.proofs.TableRule.{byte-bad, byte-well}
+use Rattle.weights.proofs.faults.byte_fault.Statement.{statement}
+use Rattle.weights.proofs.faults.byte_fault.Tie as tie
+
+most-at-requires : tie.Need-most-at-requires
+most-at-requires c κs = search needs
+
+returns : tie.Need-returns
+returns c = let a = c .before .before .args in byte-well (a .n) (a .most) (a .p) (a .x) (c .before .most-at .result) (c .before .most-at .ensures) (omega arith)
+
+returns-2 : tie.Need-returns-2
+returns-2 c = let a = c .before .before .args in byte-bad (a .n) (a .most) (a .p) (a .x) (c .before .most-at .result) (c .before .most-at .ensures) (omega arith)
+
+pub byte-fault-spec : {M : Type 1} → statement M
+byte-fault-spec = tie.close (tie.spec most-at-requires returns returns-2)

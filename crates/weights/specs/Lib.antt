@@ -1,0 +1,5 @@
+pub mod Sums
+pub mod Faults
+pub mod Tables
+pub mod Rests
+pub mod Entry
