@@ -24,17 +24,6 @@ weightBytes = 2 ^ maxWires
 abbrev pub rowBytes : ℕ
 rowBytes = maxWires
 
--- a list written for n wires: at most two gates for each wire of each parity, and n gates for each row
-abbrev pub writtenGates : ℕ → ℕ
-writtenGates n = n * 2 ^ n + n * n
-
--- the longest written list
-abbrev pub maxWrittenGates : ℕ
-maxWrittenGates = writtenGates maxWires
-
--- the bytes to lend for it
-abbrev pub writeBytes : ℕ
-writeBytes = gateBytes * maxWrittenGates
 -- the coefficients of two wires, and of three: one byte for each two, and for each three
 abbrev pub pairBytes : ℕ
 pairBytes = maxWires * maxWires
@@ -49,3 +38,15 @@ maxWeight = 7
 -- a mark is 0 or 1
 abbrev pub maxMark : ℕ
 maxMark = 1
+
+-- a list written for n wires: at most two gates for each wire of each parity, and n gates for each row
+abbrev pub writtenGates : ℕ → ℕ
+writtenGates n = n * 2 ^ n + n * n
+
+-- the longest written list
+abbrev pub maxWrittenGates : ℕ
+maxWrittenGates = writtenGates maxWires
+
+-- the bytes to lend for it
+abbrev pub writeBytes : ℕ
+writeBytes = gateBytes * maxWrittenGates

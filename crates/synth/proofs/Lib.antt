@@ -11,3 +11,4 @@ pub mod MaskSteps
 pub mod RowsWritten
 pub mod PhaseTurns
 pub mod RowTurns
+pub mod RowRule

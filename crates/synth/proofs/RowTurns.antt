@@ -80,6 +80,15 @@ module _ (masks full : List ℕ) (r b q : ℕ) (less : r < maxWires) (eq : q ≡
   pub step-masks : (last : List ℕ) → last ≡ recount r (bitXor (getD full r 0) (1 * 2 ^ r % 2 ^ maxWires)) full → last ≡ nextMasks r b masks
   step-masks last e = e ∙ ap₂ (recount r) step-surplus full-is
 
+-- ---- one row more
+
+pub going-more : (n r : ℕ) (rows masks held masks′ : List ℕ) → n ≤ maxWires → r < n → Going maxWires n r rows masks held → (b : ℕ) → b ≡ pivot n r (getD masks r 0) → b < n
+    → masks′ ≡ nextMasks r b masks → (held′ : List ℕ) × Going maxWires n (r + 1) rows masks′ held′
+going-more n r rows masks held masks′ fit inside h b e l em =
+    let x = going-next maxWires n fit rows r masks held inside h (rw (← e) l) in
+    let e′ : nextMasks r (pivot n r (getD masks r 0)) masks ≡ masks′ = ap (λ (i : ℕ). nextMasks r i masks) (sym e) ∙ sym em in
+    (x .0, subst (λ (i : ℕ). Going maxWires n i rows masks′ (x .0)) (sym (add-one r)) (subst (λ (y : List ℕ). Going maxWires n (suc r) rows y (x .0)) e′ (x .1)))
+
 -- ---- writing the rows
 
 -- what the loop knows after r rows: the wires hold rows that the masks combine to those wanted, and the gates stored so far are the first of all
@@ -139,13 +148,11 @@ module _ (n r : ℕ) (rows masks g g′ : List ℕ) (k j : ℕ) (fit : n ≤ max
 
         pub rows-next : (g₂ : List ℕ) (k₂ : ℕ) → Stored g₁ g₂ k₁ k₂ (cnots n p r) → RowLoop n (r + 1) rows masks′ g g₂ k k₂
         rows-next g₂ k₂ d =
-            let h = going-next maxWires n fit rows r masks (l .held) inside (l .going) (rw (← eb) pivot-inside) in
+            let h = going-more n r rows masks (l .held) masks′ fit inside (l .going) b eb pivot-inside em in
             let here : List Gate = cnots n q b ++ cnots n p r in
             record {
               held = h .0;
-              going =
-                  subst (λ (i : ℕ). Going maxWires n i rows masks′ (h .0)) (sym (add-one r))
-                  (subst (λ (x : List ℕ). Going maxWires n (suc r) rows x (h .0)) (ap (λ (i : ℕ). nextMasks r i masks) (sym eb) ∙ sym em) (h .1));
+              going = h .1;
               done = l .done ++ here;
               stored = stored-then g g′ k j (l .done) here (l .stored) g₂ k₂ (stored-then g′ g₁ j k₁ (cnots n q b) (cnots n p r) a g₂ k₂ d);
               rest = append-assoc (l .done) here (rowsFrom n (n - (r + 1)) (r + 1) masks′) ∙ whole;

@@ -4,32 +4,37 @@ use Prim.Native.Nat.{_-_, _^_, suc, zero, ℕ}
 use lib.Dec.{eqb, leb, ltb}
 use lib.ListN.{length}
 use Rattle.gf2.specs.Selection.{combine}
-use Rattle.circuit.specs.Faults.{lentOutput, orElse, wiresFault}
+use Rattle.circuit.specs.Faults.{lentOutput, orElse}
 use Rattle.circuit.specs.Limits.{rowBytes, writeBytes}
 use Rattle.circuit.specs.Read.{either}
+use Rattle.weights.specs.Faults.{callFault, weightsFault}
 
 -- rows not 8 bytes, a bit or row beyond n, or not invertible
 abbrev pub rowRule : ℕ
 rowRule = 7
 
--- row i is below this: no bit beyond n, and 0 from row n on
-abbrev pub rowLimit : ℕ → ℕ → ℕ
-rowLimit n i = either (ltb i n) (2 ^ n) 1
+-- the most that row i may be: no bit beyond n, and 0 from row n on
+abbrev pub rowMost : ℕ → ℕ → ℕ
+rowMost n i = either (ltb i n) (2 ^ n - 1) 0
 
 -- the rows, the first of which is row i
 unfoldable pub beyondFault : ℕ → ℕ → List ℕ → ℕ
 beyondFault n i [] = 0
-beyondFault n i (row ∷ rows) = either (ltb row (rowLimit n i)) (beyondFault n (suc i) rows) rowRule
+beyondFault n i (row ∷ rows) = either (leb row (rowMost n i)) (beyondFault n (suc i) rows) rowRule
 
--- some combination of the rows, that of a mask from 1 to k, is 0
+-- a combination of rows, that of a mask from 1 to k, is 0
 unfoldable pub cancelFault : ℕ → List ℕ → ℕ
 cancelFault zero rows = 0
 cancelFault (suc k) rows = either (eqb (combine (suc k) rows) 0) rowRule (cancelFault k rows)
 
--- N rows for n wires: their number, the bits and rows beyond n, and every combination of rows 0 to n - 1 but the empty one
+-- N rows, for n wires: their number, then bits and rows beyond n, then every combination of rows 0 to n - 1 but the empty one
 unfoldable pub rowsFault : ℕ → ℕ → List ℕ → ℕ
 rowsFault N n rows = either (eqb (length rows) N) (orElse (beyondFault n 0 rows) (cancelFault (2 ^ n - 1) rows)) rowRule
 
--- lent gates too short for the longest written list
+-- lent gates under 6,336 bytes
 abbrev pub roomFault : ℕ → ℕ
 roomFault gates = either (leb writeBytes gates) 0 lentOutput
+
+-- 1, 8, 6, then 7, by the weights, the rows and the length of the gates lent
+unfoldable pub writeFault : ℕ → List ℕ → List ℕ → ℕ → ℕ
+writeFault n weights rows gates = orElse (callFault n (roomFault gates) (weightsFault n weights)) (rowsFault rowBytes n rows)

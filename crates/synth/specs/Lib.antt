@@ -1,4 +1,5 @@
 pub mod Spelling
 pub mod Faults
+pub mod Entry
 pub mod Writing
 pub mod Storing
