@@ -12,3 +12,5 @@ pub mod RowsWritten
 pub mod PhaseTurns
 pub mod RowTurns
 pub mod RowRule
+pub mod WriteBack
+pub mod WriteWays

@@ -126,6 +126,14 @@ module _ (n : ℕ) (rows : List ℕ) where
 
 -- ---- the rows
 
+-- the first of two faults, or the second where there is no first
+pub or-first : (f g : ℕ) → f ≢ 0 → f ≡ orElse f g
+or-first zero g h = absurd (h refl)
+or-first (suc f) g h = refl
+
+pub or-second : (f g : ℕ) → f ≡ 0 → g ≡ orElse f g
+or-second f g e = rw e
+
 module _ (N n : ℕ) (rows : List ℕ) where
   pub other-length : length rows ≢ N → rowRule ≡ rowsFault N n rows
   unfolding rowsFault
@@ -134,6 +142,13 @@ module _ (N n : ℕ) (rows : List ℕ) where
   pub right-length : length rows ≡ N → orElse (beyondFault n 0 rows) (cancelFault (2 ^ n - 1) rows) ≡ rowsFault N n rows
   unfolding rowsFault
   right-length e = simp (eq-eqb (length rows) N e)
+
+  module _ (long : length rows ≡ N) (f : ℕ) (e : f ≡ beyondFault n 0 rows) where
+    pub rows-beyond : f ≢ 0 → f ≡ rowsFault N n rows
+    rows-beyond h = or-first f (cancelFault (2 ^ n - 1) rows) h ∙ ap (λ (x : ℕ). orElse x (cancelFault (2 ^ n - 1) rows)) e ∙ right-length long
+
+    pub rows-cancel : f ≡ 0 → cancelFault (2 ^ n - 1) rows ≡ rowsFault N n rows
+    rows-cancel z = or-second (beyondFault n 0 rows) (cancelFault (2 ^ n - 1) rows) (sym e ∙ z) ∙ right-length long
 
   -- no fault exactly where the rows are sound
   pub rows-sound : (rowsFault N n rows ≡ 0) ↔ SoundRows N n rows

@@ -4,12 +4,12 @@ ghost use Prim.Native.Nat.{_-_, _^_, _≤_};
 ghost use lib.ListN.{length};
 ghost use Rattle.circuit.specs.Limits.{maxWires, rowBytes};
 ghost use Rattle.synth.specs.Faults.{roomFault, rowMost, beyondFault, cancelFault, rowsFault, writeFault};
+use crate::masks::pivot_of;
+use crate::masks::row_step;
 use circuit::faults::OUTPUT;
 use circuit::limits::Parity;
 use circuit::limits::ROW_BYTES;
 use circuit::limits::WRITE_BYTES;
-use crate::masks::pivot_of;
-use crate::masks::row_step;
 use weights::faults::call_fault;
 use weights::faults::weights_fault;
 
@@ -67,7 +67,11 @@ fn row_most(n: usize, i: usize) -> Parity
     requires { ⌜ n ≤ maxWires ⌝ }
     ensures { λ r. ⌜ r ≡ rowMost n i ⌝ }
 {
-    if i < n { ((1usize << n) - 1) as Parity } else { 0 }
+    if i < n {
+        ((1usize << n) - 1) as Parity
+    } else {
+        0
+    }
 }
 
 // Dependent rows: some mask, on the way to 2^i, has no pivot.

@@ -56,9 +56,10 @@ loop-again c =
     let a = b .args in
     let h = at .loop .inv .1 in
     let p = c .before .before .before .pivot-of in
-    let s = c .before .row-step in
-    (search needs,
-    going-more (a .n) (at .loop .r) (a .rows) (at .loop .masks) (h .0) (s .result .masks) (b .pre .0) (omega arith) (h .1) (p .result) (p .ensures) (omega arith) (s .ensures .2))
+    let s = c .before .row-step in (
+      search needs,
+      going-more (a .n) (at .loop .r) (a .rows) (at .loop .masks) (h .0) (s .result .masks) (b .pre .0) (omega arith) (h .1) (p .result) (p .ensures) (omega arith) (s .ensures .2),
+    )
 
 returns-2 : tie.Need-returns-2 Inv-loop μ-loop
 returns-2 c =

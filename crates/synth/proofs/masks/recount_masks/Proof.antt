@@ -52,12 +52,13 @@ loop-again c =
     let a = at .before .args in
     let s = at .loop .s in
     let i = at .loop .i in
-    let o = c .only-if in
-    (search needs,
-    simp length-set (omega arith),
-    filled-next s (recount (a .t) (a .q) (a .masks)) i (bitXor (getD s i 0) (o .result)) (omega arith) (at .loop .inv .2)
-    (recount-entry (a .masks) s (a .t) (a .q) i (o .result) (at .loop .inv .3 i (omega arith)) (o .ensures)),
-    ahead-next (a .masks) s i (bitXor (getD s i 0) (o .result)) (at .loop .inv .3))
+    let o = c .only-if in (
+      search needs,
+      simp length-set (omega arith),
+      filled-next s (recount (a .t) (a .q) (a .masks)) i (bitXor (getD s i 0) (o .result)) (omega arith) (at .loop .inv .2)
+          (recount-entry (a .masks) s (a .t) (a .q) i (o .result) (at .loop .inv .3 i (omega arith)) (o .ensures)),
+      ahead-next (a .masks) s i (bitXor (getD s i 0) (o .result)) (at .loop .inv .3),
+    )
 
 returns : tie.Need-returns Inv-loop μ-loop
 returns c =

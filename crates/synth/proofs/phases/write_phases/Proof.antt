@@ -37,11 +37,12 @@ write-parity-requires c κs =
     let at = c .before .before .before in
     let b = at .before .before .before in
     let a = b .args in
-    let w = now (a .weights) in
-    (b .pre .0,
-    b .pre .1 .small (at .loop .p),
-    λ e. ap (λ (p : ℕ). weight w p) e ∙ b .pre .1 .none,
-    phases-room (now (a .gates)) (at .loop .gates) (at .loop .k) (a .n) (at .loop .p) w (at .loop .inv .2) (omega arith) (b .pre .2))
+    let w = now (a .weights) in (
+      b .pre .0,
+      b .pre .1 .small (at .loop .p),
+      λ e. ap (λ (p : ℕ). weight w p) e ∙ b .pre .1 .none,
+      phases-room (now (a .gates)) (at .loop .gates) (at .loop .k) (a .n) (at .loop .p) w (at .loop .inv .2) (omega arith) (b .pre .2),
+    )
 
 add-p : tie.Need-add-p Inv-loop μ-loop
 add-p c = search needs
@@ -53,10 +54,11 @@ loop-again : tie.Need-loop-again Inv-loop μ-loop
 loop-again c =
     let at = c .before .before .before .before .before .before in
     let a = at .before .before .before .args in
-    let u = c .before .before .write-parity in
-    (search needs,
-    at .loop .inv .1,
-    phases-turn (now (a .gates)) (at .loop .gates) (at .loop .k) (a .n) (at .loop .p) (now (a .weights)) (at .loop .inv .2) _ (u .result) (u .ensures))
+    let u = c .before .before .write-parity in (
+      search needs,
+      at .loop .inv .1,
+      phases-turn (now (a .gates)) (at .loop .gates) (at .loop .k) (a .n) (at .loop .p) (now (a .weights)) (at .loop .inv .2) _ (u .result) (u .ensures),
+    )
 
 same-length : tie.Need-same-length Inv-loop μ-loop
 same-length c = let at = c .before in stored-same _ _ _ _ _ (at .loop .inv .2)
