@@ -1,17 +1,18 @@
 -- Gates and their bytes: one way and back, joined, and how many.
 use mathlib.Core.List.{_++_, List, [], _∷_}
 use mathlib.Core.Path.{ap, refl, _≡_}
-use Prim.Native.Nat.{_*_, _/_, ℕ}
+use Prim.Native.Nat.{_*_, ℕ}
 use native.Mathlib.Omega.{arith}
 use lib.ListN.{length}
 use Rattle.circuit.specs.Gate.{Gate, bytesOf, gate, gatesOf}
+use Rattle.circuit.specs.Limits.{gateBytes}
 
 pub gates-of-bytes : (gs : List Gate) → gatesOf (bytesOf gs) ≡ gs
 unfolding gatesOf bytesOf
 gates-of-bytes [] = refl
 gates-of-bytes (gate k a b ∷ gs) = ap (λ (l : List Gate). gate k a b ∷ l) (gates-of-bytes gs)
 
-pub length-bytes : (gs : List Gate) → length (bytesOf gs) ≡ 3 * length gs
+pub length-bytes : (gs : List Gate) → length (bytesOf gs) ≡ gateBytes * length gs
 unfolding bytesOf
 length-bytes [] = refl
 length-bytes (gate k a b ∷ gs) = omega (arith, length-bytes gs)
@@ -20,10 +21,3 @@ pub bytes-append : (xs ys : List Gate) → bytesOf (xs ++ ys) ≡ bytesOf xs ++ 
 unfolding bytesOf
 bytes-append [] ys = refl
 bytes-append (gate k a b ∷ xs) ys = ap (λ (l : List ℕ). k ∷ a ∷ b ∷ l) (bytes-append xs ys)
-
-pub length-gates : (bytes : List ℕ) → length (gatesOf bytes) ≡ length bytes / 3
-unfolding gatesOf
-length-gates [] = refl
-length-gates (k ∷ []) = refl
-length-gates (k ∷ a ∷ []) = refl
-length-gates (k ∷ a ∷ b ∷ bytes) = omega (arith, length-gates bytes)

@@ -14,3 +14,4 @@ pub mod RowTurns
 pub mod RowRule
 pub mod WriteBack
 pub mod WriteWays
+pub mod Laws

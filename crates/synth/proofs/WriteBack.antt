@@ -33,9 +33,6 @@ module _ (N n : ℕ) (fit : n ≤ N) (w rows : List ℕ) (sw : SoundWeights (2 ^
   gs : List Gate
   gs = writeList N n w rows
 
-  phases : List Gate
-  phases = writePhases N n w (2 ^ n)
-
   bring : Brings n n (firstRows N n) rows (writeRows n rows)
   bring = rows-written N n fit rows sr
 

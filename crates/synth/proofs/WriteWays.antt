@@ -22,7 +22,7 @@ use Rattle.synth.proofs.RowRule.{or-first, or-second, rows-sound}
 use Rattle.synth.proofs.Stores.{room-first, room-then, stored-front, stored-long, stored-rest, stored-then}
 use Rattle.synth.proofs.WriteBack.{list-written}
 use Rattle.synth.specs.Entry.{WriteList, Wrote, frontGates, writeReply}
-use Rattle.synth.specs.Faults.{roomFault, rowsFault, writeFault}
+use Rattle.synth.specs.Faults.{Writable, roomFault, rowsFault, writeFault}
 use Rattle.synth.specs.Storing.{Room, Stored}
 use Rattle.synth.specs.Writing.{writeList, writePhases, writeRows}
 use Rattle.synth.specs.declared.Written.{Written}
@@ -47,14 +47,6 @@ room-pass m e = go (decLe writeBytes m)
 pub room-well : (m : ℕ) → writeBytes ≤ m → roomFault m ≡ 0
 room-well m l = simp (le-leb writeBytes m l)
 
--- what a call of `write` without a fault brings
-pub record Ready (n : ℕ) (w rows : List ℕ) (gates : ℕ) : Type 0 where
-  pub some : 1 ≤ n
-  pub few : n ≤ maxWires
-  pub room : writeBytes ≤ gates
-  pub weights-sound : SoundWeights weightBytes n w
-  pub rows-sound : SoundRows maxWires n rows
-
 module _ (n : ℕ) (w rows : List ℕ) (gates : ℕ) where
   pub call-refuses : (f : ℕ) → f ≡ callFault n (roomFault gates) (weightsFault n w) → f ≢ 0 → f ≡ writeFault n w rows gates
   unfolding writeFault
@@ -64,7 +56,7 @@ module _ (n : ℕ) (w rows : List ℕ) (gates : ℕ) where
   unfolding writeFault
   rows-decide f e z = or-second (callFault n (roomFault gates) (weightsFault n w)) (rowsFault rowBytes n rows) (sym e ∙ z)
 
-  pub fault-ready : writeFault n w rows gates ≡ 0 → Ready n w rows gates
+  pub fault-ready : writeFault n w rows gates ≡ 0 → Writable n w rows gates
   unfolding writeFault
   fault-ready e =
       let a = or-pass (callFault n (roomFault gates) (weightsFault n w)) (rowsFault rowBytes n rows) e in
@@ -77,7 +69,7 @@ module _ (n : ℕ) (w rows : List ℕ) (gates : ℕ) where
         rows-sound = rows-sound rowBytes n rows .0 (a .1);
       }
 
-  pub ready-faultless : Ready n w rows gates → writeFault n w rows gates ≡ 0
+  pub ready-faultless : Writable n w rows gates → writeFault n w rows gates ≡ 0
   unfolding writeFault
   ready-faultless r =
       or-well (callFault n (roomFault gates) (weightsFault n w)) (rowsFault rowBytes n rows)
@@ -95,7 +87,7 @@ module _ (n : ℕ) (w rows g : List ℕ) (f : ℕ) (judged : f ≡ writeFault n 
   write-refused h = record { reply = refusal f 0 h ∙ ap (λ (x : ℕ). writeReply x 0) judged; gates-left = refl }
 
   module _ (clear : f ≡ 0) where
-    ready : Ready n w rows (length g)
+    ready : Writable n w rows (length g)
     ready = fault-ready n w rows (length g) (sym judged ∙ clear)
 
     wrote : Wrote maxWires n w rows (writeList maxWires n w rows)

@@ -1,13 +1,24 @@
 -- Document 01, "Faults": number 7, of rows, and the checks of a call that writes a list: 1, 8, 6, 7. A fault's number is that of the table; 0 stands for none.
 use mathlib.Core.List.{List, [], _∷_}
-use Prim.Native.Nat.{_-_, _^_, suc, zero, ℕ}
+use Prim.Native.Nat.{_-_, _^_, _≤_, suc, zero, ℕ}
 use lib.Dec.{eqb, leb, ltb}
 use lib.ListN.{length}
 use Rattle.gf2.specs.Selection.{combine}
 use Rattle.circuit.specs.Faults.{lentOutput, orElse}
-use Rattle.circuit.specs.Limits.{rowBytes, writeBytes}
+use Rattle.circuit.specs.Limits.{maxWires, rowBytes, weightBytes, writeBytes}
 use Rattle.circuit.specs.Read.{either}
+use Rattle.circuit.specs.Sound.{SoundRows, SoundWeights}
 use Rattle.weights.specs.Faults.{callFault, weightsFault}
+
+-- none of faults 1, 8, 6 and 7: the wire count, the bytes of the gates lent, the weights, the rows
+pub record Writable (n : ℕ) (weights rows : List ℕ) (gates : ℕ) : Type 0 where
+  pub some : 1 ≤ n
+  pub few : n ≤ maxWires
+  pub room : writeBytes ≤ gates
+  pub weights-sound : SoundWeights weightBytes n weights
+  pub rows-sound : SoundRows maxWires n rows
+
+-- ---- the same, computed
 
 -- rows not 8 bytes, a bit or row beyond n, or not invertible
 abbrev pub rowRule : ℕ
