@@ -11,23 +11,25 @@ use Rattle.circuit.specs.OddSet.{members}
 use Rattle.circuit.specs.Sound.{SoundMarks}
 use Rattle.gf2.proofs.Sum.{sum-const, sum-front, sum-le}
 use Rattle.moves.proofs.Finding.{none}
-use Rattle.moves.proofs.Laws.{limits-suffice, move-shrinks}
+use Rattle.moves.proofs.Laws.{limits-suffice, move-leaves-sound, move-shrinks}
 use Rattle.moves.proofs.Logs.{bytes-length, bytes-say, logged-length, logged-more}
 use Rattle.moves.proofs.Replaying.{replays-more, replays-none, replays-shrinks, replays-sound}
 use Rattle.moves.specs.CarryOut.{carryOut}
 use Rattle.moves.specs.Log.{LegalBytes, logged, setOf, zOf}
-use Rattle.moves.specs.Replay.{Replays}
 use Rattle.phase.specs.NewWeights.{rest}
+use Rattle.trimmer.specs.Steps.{Made}
 
--- from the marks m and the log before, k moves have been made
-pub record Made (n : ℕ) (m before : List ℕ) (k : ℕ) (marks log : List ℕ) : Type 0 where
-  pub replayed : Replays maxMembers n m (logged moveBytes log k) marks
-  pub long : length log ≡ length before
-  pub rest : drop (moveBytes * k) log ≡ drop (moveBytes * k) before
-
-pub made-none : (n : ℕ) (m log : List ℕ) → Made n m log 0 m log
+pub made-none : (n : ℕ) (m log : List ℕ) (k : ℕ) → k ≡ 0 → Made n m log k m log
 unfolding logged
-made-none n m log = record { replayed = replays-none maxMembers n m; long = refl; rest = refl }
+made-none n m log k e = rw e (record { replayed = replays-none maxMembers n m; long = refl; rest = refl })
+
+-- the marks after a legal move are sound
+pub moved-sound : (n : ℕ) → n ≤ maxWires → (marks bytes marks′ : List ℕ) → SoundMarks weightBytes n marks → LegalBytes maxMembers n marks bytes → marks′ ≡ carryOut marks (zOf bytes) (setOf bytes)
+    → SoundMarks weightBytes n marks′
+moved-sound n fit marks bytes marks′ s f e =
+    let t = bytes-say maxMembers (f .z) (f .Y) bytes (f .is) in
+    subst (λ (x : List ℕ). SoundMarks weightBytes n x) (sym (e ∙ ap₂ (carryOut marks) (t .0) (t .1)))
+    (move-leaves-sound weightBytes n maxMembers (limits-suffice n fit .0) marks s (f .z) (f .Y) (f .legal))
 
 -- fewer members than marks: parity 0 is none
 members-lt : (size n : ℕ) (marks : List ℕ) → 0 < size → SoundMarks size n marks → members marks < size
@@ -56,21 +58,24 @@ module _ (n : ℕ) (fit : n ≤ maxWires) (m before : List ℕ) (sound : SoundMa
     smaller : members (carryOut marks (f .z) (f .Y)) + 1 ≤ members marks
     smaller = move-shrinks weightBytes n maxMembers (limits-suffice n fit .0) marks still-sound (f .z) (f .Y) (f .legal)
 
-    pub move-room : logBytes ≤ length before → moveBytes * k + moveBytes ≤ length log
-    move-room h = omega (arith, smaller, afforded, members-lt weightBytes n m (omega arith) sound, made .long)
-
     carried : carryOut marks (zOf bytes) (setOf bytes) ≡ carryOut marks (f .z) (f .Y)
     carried = let s = bytes-say maxMembers (f .z) (f .Y) bytes (f .is) in ap₂ (carryOut marks) (s .0) (s .1)
+
+    pub few-moves : k < weightBytes
+    few-moves = omega (arith, smaller, afforded, members-lt weightBytes n m (omega arith) sound)
+
+    pub move-room : logBytes ≤ length before → moveBytes * k + moveBytes ≤ length log
+    move-room h = omega (arith, smaller, afforded, members-lt weightBytes n m (omega arith) sound, made .long)
 
     pub move-smaller : (marks′ : List ℕ) → marks′ ≡ carryOut marks (zOf bytes) (setOf bytes) → members marks′ < members marks
     move-smaller marks′ e = rw (e ∙ carried) (omega (arith, smaller))
 
-    bytes-long : length bytes ≡ moveBytes
+    pub bytes-long : length bytes ≡ moveBytes
     bytes-long = ap length (f .is) ∙ bytes-length maxMembers (f .z) (f .Y) (f .legal .few)
 
-    pub made-more : logBytes ≤ length before → (marks′ log′ : List ℕ) → marks′ ≡ carryOut marks (zOf bytes) (setOf bytes) → log′ ≡ paste log (moveBytes * k) bytes moveBytes
+    made-one-more : logBytes ≤ length before → (marks′ log′ : List ℕ) → marks′ ≡ carryOut marks (zOf bytes) (setOf bytes) → log′ ≡ paste log (moveBytes * k) bytes moveBytes
         → Made n m before (k + 1) marks′ log′
-    made-more h marks′ log′ em el =
+    made-one-more h marks′ log′ em el =
         let room : moveBytes * k + moveBytes ≤ length log = move-room h in
         let at : moveBytes * (k + 1) ≡ moveBytes * k + moveBytes = omega arith in
         let head : take moveBytes bytes ≡ bytes = subst (λ (j : ℕ). take j bytes ≡ bytes) bytes-long (take-length bytes) in
@@ -83,3 +88,8 @@ module _ (n : ℕ) (fit : n ≤ maxWires) (m before : List ℕ) (sound : SoundMa
               (drop-paste log (moveBytes * k) bytes moveBytes (omega arith) (omega (arith, bytes-long))
               ∙ sym (drop-drop moveBytes (moveBytes * k) log) ∙ ap (drop moveBytes) (made .rest) ∙ drop-drop moveBytes (moveBytes * k) before);
         }
+
+    pub made-more : logBytes ≤ length before → (k′ : ℕ) → k′ ≡ k + 1 → (marks′ log′ : List ℕ) → marks′ ≡ carryOut marks (zOf bytes) (setOf bytes)
+        → log′ ≡ paste log (moveBytes * k) bytes moveBytes → Made n m before k′ marks′ log′
+    made-more h k′ ek marks′ log′ em el =
+        subst (λ (j : ℕ). Made n m before j marks′ log′) (sym ek) (made-one-more h marks′ log′ em el)

@@ -17,8 +17,8 @@ use Rattle.moves.proofs.Products.{place}
 use Rattle.trimmer.proofs.Whole.{whole}
 use Rattle.trimmer.specs.Entry.{Done-with, Outcome, TrimList, shortFault, trimFault, verdict}
 use Rattle.trimmer.specs.declared.Counts.{Counts}
-use Rattle.trimmer.specs.declared.Trim.{Trim}
-use Rattle.trimmer.specs.declared.Trim.the-variants.{Done, Refused}
+use Rattle.trimmer.specs.declared.TrimReply.{TrimReply}
+use Rattle.trimmer.specs.declared.TrimReply.the-variants.{Done, Refused}
 use Rattle.circuit.specs.declared.Reply.{Reply}
 use Rattle.circuit.specs.declared.Reply.the-variants as reply
 
@@ -68,10 +68,11 @@ module _ (n : ℕ) (g out log : List ℕ) (f : ℕ) (judged : f ≡ trimFault n 
       called = lent n (length g) (length out) (length log) (sym judged ∙ clear)
 
       pub may-trim : Accepted n g × (writeBytes ≤ length out) × (logBytes ≤ length log)
-      may-trim =
-          (record { some = called .some; few = called .few; whole = called .whole; short = called .short; formed = done-formed n 0 (gatesOf g) (sym is ∙ done) },
-          called .out-room,
-          called .log-room)
+      may-trim = (
+        record { some = called .some; few = called .few; whole = called .whole; short = called .short; formed = done-formed n 0 (gatesOf g) (sym is ∙ done) },
+        called .out-room,
+        called .log-room,
+      )
 
       pub trim-done : (out′ log′ : List ℕ) (counts : Counts) → Done-with n g out log out′ log′ counts → TrimList n g out log out′ log′ (Done counts)
       trim-done out′ log′ counts d =

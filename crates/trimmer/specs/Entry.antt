@@ -12,8 +12,8 @@ use Rattle.moves.proofs.Products.{place}
 use Rattle.phase.specs.NewWeights.{rest}
 use Rattle.trimmer.specs.Trimmed.{Trimmed}
 use Rattle.trimmer.specs.declared.Counts.{Counts}
-use Rattle.trimmer.specs.declared.Trim.{Trim}
-use Rattle.trimmer.specs.declared.Trim.the-variants.{Done, Refused}
+use Rattle.trimmer.specs.declared.TrimReply.{TrimReply}
+use Rattle.trimmer.specs.declared.TrimReply.the-variants.{Done, Refused}
 use Rattle.circuit.specs.declared.Reply.{Reply}
 use Rattle.circuit.specs.declared.Reply.the-variants as reply
 
@@ -46,10 +46,10 @@ pub record Done-with (n : ℕ) (bytes out log out′ log′ : List ℕ) (counts 
   pub log-kept : KeptFrom (moveBytes * counts .moves) log log′
 
 -- what is left and replied after a verdict
-abbrev pub Outcome : Reply → ℕ → List ℕ → List ℕ → List ℕ → List ℕ → List ℕ → Trim → Type 0
+abbrev pub Outcome : Reply → ℕ → List ℕ → List ℕ → List ℕ → List ℕ → List ℕ → TrimReply → Type 0
 Outcome reply.Done n bytes out log out′ log′ r = (counts : Counts) × (r ≡ Done counts) × Done-with n bytes out log out′ log′ counts
 Outcome (reply.Refused number place) n bytes out log out′ log′ r = (r ≡ Refused number place) × (out′ ≡ out) × (log′ ≡ log)
 
 -- `trim`, called with the bytes of C, these gates and this log, replies r and leaves out′ and log′
-pub record TrimList (n : ℕ) (bytes out log out′ log′ : List ℕ) (r : Trim) : Type 0 where
+pub record TrimList (n : ℕ) (bytes out log out′ log′ : List ℕ) (r : TrimReply) : Type 0 where
   pub outcome : Outcome (verdict n bytes (length out) (length log)) n bytes out log out′ log′ r

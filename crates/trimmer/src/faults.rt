@@ -1,8 +1,12 @@
 // The faults of a call of the trim.
 ghost use mathlib.Core.Path.{_≡_};
 ghost use Rattle.trimmer.specs.Entry.{shortFault, trimFault};
-use circuit::faults::{OUTPUT, list_fault, or_else, wires_fault};
-use circuit::limits::{LOG_BYTES, WRITE_BYTES};
+use circuit::faults::OUTPUT;
+use circuit::faults::list_fault;
+use circuit::faults::or_else;
+use circuit::faults::wires_fault;
+use circuit::limits::LOG_BYTES;
+use circuit::limits::WRITE_BYTES;
 
 // Faults 1, 2 and 8, by the lengths lent.
 pub fn trim_fault(n: usize, bytes: usize, out: usize, log: usize) -> u8
