@@ -35,3 +35,8 @@ gatesOf [] = []
 gatesOf (kind ∷ []) = []
 gatesOf (kind ∷ a ∷ []) = []
 gatesOf (kind ∷ a ∷ b ∷ bytes) = gate kind a b ∷ gatesOf bytes
+
+-- the bytes of a list of gates
+unfoldable pub bytesOf : List Gate → List ℕ
+bytesOf [] = []
+bytesOf (gate kind a b ∷ gs) = kind ∷ a ∷ b ∷ bytesOf gs

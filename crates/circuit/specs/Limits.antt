@@ -1,5 +1,6 @@
 -- The numbers of document 01, each once. Every law takes the wire count n, and N for the most wires, as a parameter: only contracts cite these.
 use Prim.Native.Nat.{_*_, _+_, _-_, _/_, _^_, ℕ}
+use Prim.Native.Nat.{_*_, _+_, _^_, ℕ}
 
 -- a wire count is 1 to 8
 abbrev pub maxWires : ℕ
@@ -57,3 +58,15 @@ maxWeight = 7
 -- a mark is 0 or 1
 abbrev pub maxMark : ℕ
 maxMark = 1
+
+-- a list written for n wires: at most two gates for each wire of each parity, and n gates for each row
+abbrev pub writtenGates : ℕ → ℕ
+writtenGates n = n * 2 ^ n + n * n
+
+-- the longest written list
+abbrev pub maxWrittenGates : ℕ
+maxWrittenGates = writtenGates maxWires
+
+-- the bytes to lend for it
+abbrev pub writeBytes : ℕ
+writeBytes = gateBytes * maxWrittenGates

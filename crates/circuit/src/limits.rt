@@ -44,3 +44,9 @@ pub const MAX_WEIGHT: Weight = 7;
 
 // A mark, 0 or 1.
 pub const MAX_MARK: u8 = 1;
+
+// The longest written list: two gates for each wire of each parity, and MAX_WIRES gates for each row.
+pub const MAX_WRITTEN_GATES: usize = MAX_WIRES * WEIGHT_BYTES + MAX_WIRES * MAX_WIRES;
+
+// The bytes to lend for it.
+pub const WRITE_BYTES: usize = GATE_BYTES * MAX_WRITTEN_GATES;

@@ -19,3 +19,5 @@ pub mod Basis
 pub mod Brute
 pub mod Symmetric
 pub mod Expansion
+pub mod Gather
+pub mod BitCounts

@@ -45,7 +45,7 @@ toggled-xor size v w q e two l =
     turn x y = omega arith
 
 -- toggling marks one more at most
-toggled-few : (w : List ℕ) (q : ℕ) → q < length w → sum (length w) (λ p. getD (flip w q) p 0) ≤ sum (length w) (λ p. getD w p 0) + 1
+pub toggled-few : (w : List ℕ) (q : ℕ) → q < length w → sum (length w) (λ p. getD (flip w q) p 0) ≤ sum (length w) (λ p. getD w p 0) + 1
 toggled-few w q l =
     omega (
       arith,

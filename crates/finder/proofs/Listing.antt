@@ -1,0 +1,67 @@
+-- The members of marks as a list, and back.
+use mathlib.Core.List.{List, [], _++_, _∷_}
+use mathlib.Core.Logic.{_≢_}
+use mathlib.Core.Path.{_∙_, _≡_, ap, refl, subst, sym}
+use Prim.Native.Nat.{_+_, _<_, ℕ}
+use native.Mathlib.Numerals.{add-one}
+use native.Mathlib.Omega.{arith}
+use lib.ListN.{getD, length, set, take}
+use lib.Seq.{ext-getD, length-take-le, take-suc-set}
+use Rattle.circuit.specs.Limits.{maxWires, weightBytes}
+use Rattle.circuit.specs.Sound.{SoundMarks, weight}
+use Rattle.gf2.proofs.Table.{getD-tabulate, length-tabulate}
+use Rattle.kernel.specs.Members.{Members, marksOf}
+use Rattle.kernel.specs.declared.Offered.{Offered}
+use Rattle.moves.proofs.Keep.{member-lt}
+use Rattle.moves.proofs.Sets.{listed-ascending, listed-in, listed-occ, listed-off, listed-on, occ}
+use Rattle.moves.specs.Sets.{listed}
+use Rattle.finder.specs.Search.{Gathered, Searched}
+
+-- ---- the loop over the marks
+
+module _ (marks : List ℕ) where
+  pub gather-none : (list : List ℕ) → take 0 list ≡ listed 0 (weight marks)
+  unfolding listed
+  gather-none list = refl
+
+  module _ (list : List ℕ) (count y : ℕ) (are : take count list ≡ listed y (weight marks)) where
+    pub gather-on : count < length list → weight marks y ≡ 1 → take (count + 1) (set list count y) ≡ listed (y + 1) (weight marks)
+    gather-on l e = rw (add-one count) (take-suc-set list count y l ∙ ap (λ (ys : List ℕ). ys ++ (y ∷ [])) are ∙ sym (listed-on y (weight marks) e))
+
+    pub gather-off : weight marks y < 2 → weight marks y ≢ 1 → take count list ≡ listed (y + 1) (weight marks)
+    gather-off b ne = are ∙ sym (listed-off y (weight marks) (omega arith))
+
+-- ---- the marks of the listed members are the marks
+
+module _ (marks : List ℕ) (sound : SoundMarks weightBytes maxWires marks) where
+  pub marks-back : marksOf (listed weightBytes (weight marks)) ≡ marks
+  unfolding marksOf
+  marks-back =
+      ext-getD 0 (marksOf (listed weightBytes (weight marks))) marks (long ∙ sym (sound .long))
+      (λ p l. getD-tabulate weightBytes (λ q. occ q (listed weightBytes (weight marks))) p (rw long at l) ∙ listed-occ (weight marks) (sound .bits) weightBytes p (rw long at l))
+    where
+      long : length (marksOf (listed weightBytes (weight marks))) ≡ weightBytes
+      long = length-tabulate weightBytes (λ q. occ q (listed weightBytes (weight marks)))
+
+  pub listed-members : Members (listed weightBytes (weight marks))
+  listed-members =
+      record {
+        ordered = listed-ascending weightBytes (weight marks);
+        below =
+            λ i l. member-lt weightBytes maxWires marks sound (getD (listed weightBytes (weight marks)) i 0)
+            (listed-in (weight marks) (sound .bits) weightBytes (getD (listed weightBytes (weight marks)) i 0) (i, l, refl));
+        sound = subst (SoundMarks weightBytes maxWires) (sym marks-back) sound;
+      }
+
+-- ---- what was gathered
+
+module _ (marks list : List ℕ) (count : ℕ) (sound : SoundMarks weightBytes maxWires marks) (g : Gathered marks list count) where
+  pub gathered-length : length (take count list) ≡ count
+  gathered-length = length-take-le count list (omega (arith, g .fits, g .long))
+
+  pub gathered-members : Members (take count list)
+  gathered-members = subst Members (sym (g .are)) (listed-members marks sound)
+
+  -- what was found of the list is found of the marks
+  pub gathered-search : (bytes bytes′ : List ℕ) (r : Offered) → Searched (marksOf (take count list)) bytes bytes′ r → Searched marks bytes bytes′ r
+  gathered-search bytes bytes′ r = subst (λ (m : List ℕ). Searched m bytes bytes′ r) (ap marksOf (g .are) ∙ marks-back marks sound)

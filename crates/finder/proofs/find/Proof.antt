@@ -1,0 +1,78 @@
+-- Each way out by its law.
+use native.Mathlib.Omega.{arith}
+use borrow.Author.Needs.{needs}
+use denote.Ref.{now}
+use Rattle.finder.proofs.FindWays.{bytes-fit, find-found, find-nothing, find-refused, may-search}
+use Rattle.finder.proofs.find.Statement.{statement}
+use Rattle.finder.proofs.find.Tie as tie
+
+lent-fault-requires : tie.Need-lent-fault-requires
+lent-fault-requires c κs = search needs
+
+marks-fault-requires : tie.Need-marks-fault-requires
+marks-fault-requires c κs = search needs
+
+call-fault-requires : tie.Need-call-fault-requires
+call-fault-requires c κs = search needs
+
+returns : tie.Need-returns
+returns c =
+    let a = c .before .before .before .before .before .before .args in
+    let w = c .before .before .before .lent-fault in
+    let t = c .before .before .marks-fault in
+    let f = c .before .call-fault in
+    find-refused (a .n) (now (a .marks)) (now (a .forty)) (f .result) (w .result) (t .result) (w .ensures) (t .ensures) (f .ensures) (c .if1 .taken)
+
+search-requires : tie.Need-search-requires
+search-requires c κs =
+    let a = c .before .before .before .before .before .before .before .args in
+    let w = c .before .before .before .before .lent-fault in
+    let t = c .before .before .before .marks-fault in
+    let f = c .before .before .call-fault in
+    (may-search (a .n) (now (a .marks)) (now (a .forty)) (f .result) (w .result) (t .result) (w .ensures) (t .ensures) (f .ensures) (omega (arith, c .before .if1 .left)), bytes-fit (a .n) (now (a .marks)) (now (a .forty)) (f .result) (w .result) (t .result) (w .ensures) (t .ensures) (f .ensures) (omega (arith, c .before .if1 .left)))
+
+enum-told : tie.Need-enum-told
+enum-told c = search needs
+
+enum-told-2 : tie.Need-enum-told-2
+enum-told-2 c = search needs
+
+same-length : tie.Need-same-length
+same-length c = search needs
+
+returns-2 : tie.Need-returns-2
+returns-2 c =
+    let a = c .before .before .before .before .before .before .before .before .before .before .before .before .args in
+    let w = c .before .before .before .before .before .before .before .before .before .lent-fault in
+    let t = c .before .before .before .before .before .before .before .before .marks-fault in
+    let f = c .before .before .before .before .before .before .before .call-fault in
+    let s = c .before .before .before .before .search in
+    find-found (a .n) (now (a .marks)) (now (a .forty)) (f .result) (w .result) (t .result) (w .ensures) (t .ensures) (f .ensures) (omega (arith, c .before .before .before .before .before .before .if1 .left)) (s .last .1 .0) (rw (c .enum-told .given .1) at (s .ensures))
+
+same-length-2 : tie.Need-same-length-2
+same-length-2 c = search needs
+
+returns-3 : tie.Need-returns-3
+returns-3 c =
+    let a = c .before .before .before .before .before .before .before .before .before .before .before .before .args in
+    let w = c .before .before .before .before .before .before .before .before .before .lent-fault in
+    let t = c .before .before .before .before .before .before .before .before .marks-fault in
+    let f = c .before .before .before .before .before .before .before .call-fault in
+    let s = c .before .before .before .before .search in
+    find-nothing (a .n) (now (a .marks)) (now (a .forty)) (f .result) (w .result) (t .result) (w .ensures) (t .ensures) (f .ensures) (omega (arith, c .before .before .before .before .before .before .if1 .left)) (s .last .1 .0) (rw (c .enum-told2 .given .1) at (s .ensures))
+
+pub find-spec : {M : Type 1} → statement M
+find-spec =
+    tie.close
+    (tie.spec
+    lent-fault-requires
+    marks-fault-requires
+    call-fault-requires
+    returns
+    search-requires
+    enum-told
+    enum-told-2
+    same-length
+    returns-2
+    same-length-2
+    returns-3)

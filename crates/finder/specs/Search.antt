@@ -1,0 +1,23 @@
+-- What the finder's parts promise, for marks of up to maxWires wires.
+use mathlib.Core.List.{List}
+use mathlib.Core.Path.{_≡_}
+use Prim.Native.Nat.{_≤_, ℕ}
+use lib.ListN.{length, take}
+use Rattle.circuit.specs.Limits.{maxMembers, maxWires, weightBytes}
+use Rattle.circuit.specs.Sound.{weight}
+use Rattle.kernel.specs.declared.Offered.{Offered}
+use Rattle.kernel.specs.declared.Offered.the-variants.{Nothing, Separating}
+use Rattle.moves.specs.Log.{LegalBytes}
+use Rattle.moves.specs.Move.{Legal}
+use Rattle.moves.specs.Sets.{listed}
+
+-- the first `count` of the list are the members, in ascending order
+pub record Gathered (marks list : List ℕ) (count : ℕ) : Type 0 where
+  pub fits : count ≤ weightBytes
+  pub long : length list ≡ weightBytes
+  pub are : take count list ≡ listed weightBytes (weight marks)
+
+-- a legal move is written, or there is none
+abbrev pub Searched : List ℕ → List ℕ → List ℕ → Offered → Type 0
+Searched marks bytes bytes′ Separating = LegalBytes maxMembers maxWires marks bytes′
+Searched marks bytes bytes′ Nothing = (bytes′ ≡ bytes) × ((z : ℕ) (Y : List ℕ) → Legal maxMembers maxWires marks z Y → ⊥)

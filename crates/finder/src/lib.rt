@@ -1,0 +1,59 @@
+// The finder: a legal move for an odd set, or the certainty that there is none (document 01, "Legal moves").
+// Public entry: `find`. Its promise is the record FindMove of specs/Entry, which speaks of every z and Y; proofs/Laws says what it means.
+ghost use mathlib.Core.Path.{_≡_};
+ghost use lib.ListN.{length};
+ghost use Rattle.circuit.specs.Limits.{maxWires, moveBytes, weightBytes};
+ghost use Rattle.circuit.specs.Sound.{SoundMarks};
+ghost use Rattle.finder.specs.Entry.{FindMove};
+ghost use Rattle.finder.specs.Search.{Searched};
+
+pub mod members;
+pub mod scan;
+
+use circuit::faults::lent_fault;
+use circuit::limits::MOVE_BYTES;
+use circuit::limits::Parity;
+use circuit::limits::WEIGHT_BYTES;
+use kernel::Offered;
+use members::gather;
+use scan::scan_pairs;
+use weights::faults::call_fault;
+use weights::faults::marks_fault;
+
+pub enum Finding {
+    // The bytes lent hold a legal move.
+    Found,
+    // No move is legal for these marks.
+    Nothing,
+    // Document 01's number and place of the fault.
+    Refused { number: u8, place: usize },
+}
+
+// Finds a legal move for the marks of an odd set and writes its forty bytes. Where it finds none, and on refusal, the bytes stay as they were.
+pub fn find(n: usize, marks: &[u8], forty: &mut [u8]) -> Finding
+    ensures { λ r. ⌜ FindMove n (now (marks .entry)) (now (forty .entry)) (now (forty .exit)) r ⌝ }
+{
+    let lent = lent_fault(forty.len(), MOVE_BYTES);
+    let fault = call_fault(n, lent, marks_fault(n, marks));
+    if fault != 0 {
+        return Finding::Refused {
+            number: fault,
+            place: 0,
+        };
+    }
+    match search(marks, forty) {
+        Offered::Separating => Finding::Found,
+        Offered::Nothing => Finding::Nothing,
+    }
+}
+
+// The members are gathered once, so that the scan goes through them alone.
+fn search(marks: &[u8], forty: &mut [u8]) -> Offered
+    requires { ⌜ SoundMarks weightBytes maxWires (now marks) ⌝ }
+    requires { ⌜ length (now forty) ≡ moveBytes ⌝ }
+    ensures { λ r. ⌜ Searched (now (marks .entry)) (now (forty .entry)) (now (forty .exit)) r ⌝ }
+{
+    let mut list = [0 as Parity; WEIGHT_BYTES];
+    let count = gather(marks, &mut list);
+    scan_pairs(&list[..count], forty)
+}

@@ -1,0 +1,27 @@
+// The members of an odd set as a list.
+ghost use mathlib.Core.Path.{_≡_};
+ghost use lib.ListN.{length};
+ghost use Rattle.circuit.specs.Limits.{maxWires, weightBytes};
+ghost use Rattle.circuit.specs.Sound.{SoundMarks};
+ghost use Rattle.finder.specs.Search.{Gathered};
+use circuit::limits::Parity;
+use circuit::limits::WEIGHT_BYTES;
+
+// Lists the members in ascending order, and gives their number.
+pub fn gather(marks: &[u8], list: &mut [Parity; WEIGHT_BYTES]) -> usize
+    requires { ⌜ SoundMarks weightBytes maxWires (now marks) ⌝ }
+    requires { ⌜ length (now list) ≡ weightBytes ⌝ }
+    ensures { λ r. ⌜ Gathered (now (marks .entry)) (now (list .exit)) r ⌝ }
+{
+    let mut count: usize = 0;
+    let mut p: usize = 0;
+    while p < marks.len() {
+        let y = p;
+        p += 1;
+        if marks[y] == 1 {
+            list[count] = y as Parity;
+            count += 1;
+        }
+    }
+    count
+}

@@ -1,0 +1,29 @@
+// The scan over pairs of columns.
+ghost use mathlib.Core.Path.{_≡_};
+ghost use lib.ListN.{length};
+ghost use Rattle.circuit.specs.Limits.{moveBytes};
+ghost use Rattle.kernel.specs.Members.{Members, marksOf};
+ghost use Rattle.finder.specs.Search.{Searched};
+use circuit::limits::Parity;
+use kernel::Offered;
+use kernel::offer;
+
+// Looks at pairs of columns a < b, and leaves both loops at the first that serves.
+pub fn scan_pairs(ys: &[Parity], bytes: &mut [u8]) -> Offered
+    requires { ⌜ Members (now ys) ⌝ }
+    requires { ⌜ length (now bytes) ≡ moveBytes ⌝ }
+    ensures { λ r. ⌜ Searched (marksOf (now (ys .entry))) (now (bytes .entry)) (now (bytes .exit)) r ⌝ }
+{
+    let m = ys.len();
+    let mut best = Offered::Nothing;
+    'pairs: for a in 0..m {
+        for b in a + 1..m {
+            let got = offer(ys, ys[a], ys[b], bytes);
+            if let Offered::Separating = got {
+                best = Offered::Separating;
+                break 'pairs;
+            }
+        }
+    }
+    best
+}

@@ -1,0 +1,35 @@
+// The basis for one pair: the columns of all other members go into empty slots.
+ghost use Prim.Native.Nat.{_<_};
+ghost use lib.ListN.{length};
+ghost use Rattle.circuit.specs.Limits.{maxWires};
+ghost use Rattle.kernel.specs.Answers.{Built, Empty};
+use circuit::limits::PRODUCT_BITS;
+use circuit::limits::Parity;
+use columns::column;
+use echelon::insert;
+
+pub fn build(
+    ys: &[Parity],
+    a: Parity,
+    b: Parity,
+    z: Parity,
+    t: usize,
+    vec: &mut [u64; PRODUCT_BITS],
+    mask: &mut [u64; PRODUCT_BITS],
+    member: &mut [Parity; PRODUCT_BITS],
+)
+    requires { ⌜ t < maxWires ⌝ }
+    requires { ⌜ Empty (now vec) (now mask) (now member) ⌝ }
+    ensures { λ _. ⌜ Built (length (now (ys .entry))) (now (ys .entry)) a b z t (now (vec .exit)) (now (mask .exit)) (now (member .exit)) ⌝ }
+{
+    let mut i: usize = 0;
+    while i < ys.len() {
+        let y = ys[i];
+        i += 1;
+        if y != a {
+            if y != b {
+                insert(y, column(z, t, y), vec, mask, member);
+            }
+        }
+    }
+}

@@ -1,0 +1,97 @@
+-- The laws of writing on one page, for lists, replies and buffers as document 01 words them. The proofs are in the modules named.
+use mathlib.Core.List.{List}
+use mathlib.Core.Logic.{_↔_, _≢_}
+use mathlib.Core.Path.{_≡_, ap, refl, _∙_, _≡_}
+use Prim.Native.Nat.{_*_, _<_, _^_, suc, zero, ℕ, _≤_}
+use native.Mathlib.Omega.{arith}
+use lib.ListN.{length, take}
+use Rattle.circuit.proofs.ReadRuns.{read-runs}
+use Rattle.circuit.proofs.Sound.{start-sound}
+use Rattle.circuit.proofs.Steps.{tables}
+use Rattle.circuit.specs.Entry.{readBytes}
+use Rattle.circuit.specs.Faults.{AllWellFormed}
+use Rattle.circuit.specs.Gate.{Gate, kindOf}
+use Rattle.circuit.specs.Limits.{gateBytes, maxWires, maxWrittenGates, rowBytes, writtenGates}
+use Rattle.circuit.specs.Read.{Reading, start}
+use Rattle.circuit.specs.Run.{run}
+use Rattle.circuit.specs.Says.{says}
+use Rattle.circuit.specs.Sound.{SoundRows, SoundWeights}
+use Rattle.gf2.specs.Sum.{sum}
+use Rattle.synth.proofs.KindCounts.{kinds-total}
+use Rattle.synth.proofs.RowRule.{rows-sound}
+use Rattle.synth.proofs.WriteBack.{list-written}
+use Rattle.synth.proofs.WriteWays.{fault-ready, longest, ready-faultless}
+use Rattle.synth.specs.Entry.{WriteList, Wrote, WroteBytes, frontGates, writeReply}
+use Rattle.synth.specs.Faults.{Writable, rowsFault, writeFault}
+use Rattle.synth.specs.Spelling.{gatesOfKind, kindsAt, occurs}
+use Rattle.synth.specs.Writing.{writeList}
+use Rattle.circuit.specs.declared.gates.Kind.the-variants.{Phase}
+use Rattle.synth.specs.declared.Written.{Written}
+use Rattle.synth.specs.declared.Written.the-variants.{Done, Refused}
+
+-- ---- demand 2: a list written from sound weights and rows reads back as exactly those. For every n and N
+
+-- there is such a list, of at most n * 2^n + n * n gates, in which each weight is spelled as document 01 says: the fields of Wrote
+pub sound-is-written : (N n : ℕ) → n ≤ N → (w rows : List ℕ) → SoundWeights (2 ^ N) n w → SoundRows N n rows → (gs : List Gate) × Wrote N n w rows gs
+sound-is-written N n fit w rows sw sr = (writeList N n w rows, list-written N n fit w rows sw sr)
+
+-- where the gates at each parity are its weight's spelling, the gates of each kind are counted: for any accepted list, from the reading's start
+pub kinds-are-counted : (N n : ℕ) → n ≤ N → (kind v : ℕ) → kindOf kind ≡ Phase v → (gs : List Gate) → AllWellFormed n gs
+    → gatesOfKind kind gs ≡ sum (2 ^ n) (λ p. occurs kind (kindsAt p gs (start N n)))
+kinds-are-counted N n fit kind v e gs f = kinds-total kind v e N n fit gs (start N n) f (start-sound N n fit)
+
+-- ---- demand 1: the reply of `write`
+
+-- fault 7 exactly where the rows are not sound: not 8, with a bit or row beyond n, or not invertible
+pub no-fault-sound-rows : (n : ℕ) (rows : List ℕ) → (rowsFault rowBytes n rows ≡ 0) ↔ SoundRows maxWires n rows
+no-fault-sound-rows n rows = rows-sound rowBytes n rows
+
+-- a call has no fault exactly where everything is sound and there is room
+pub no-fault-writable : (n : ℕ) (w rows : List ℕ) (gates : ℕ) → (writeFault n w rows gates ≡ 0) ↔ Writable n w rows gates
+no-fault-writable n w rows gates = (fault-ready n w rows gates, ready-faultless n w rows gates)
+
+module _ (n : ℕ) (w rows g g′ : List ℕ) where
+  -- nothing sound is refused
+  pub writable-is-written : (r : Written) → WriteList n w rows g g′ r → Writable n w rows (length g) → (count : ℕ) × (r ≡ Done count) × WroteBytes n w rows g g′ count
+  writable-is-written (Done count) x a = (count, refl, x .gates-left)
+  writable-is-written (Refused number place) x a =
+      let e : Refused number place ≡ Done 0 = x .reply ∙ ap (λ (f : ℕ). writeReply f 0) (ready-faultless n w rows (length g) a) in
+      absurd (let z : _≡_ {A = ℕ} 0 1 = cc in omega arith)
+
+  -- nothing faulty is accepted
+  pub written-is-writable : (count : ℕ) → WriteList n w rows g g′ (Done count) → Writable n w rows (length g)
+  written-is-writable count x = fault-ready n w rows (length g) (clear (writeFault n w rows (length g)) (x .reply))
+    where
+      clear : (f : ℕ) → Done count ≡ writeReply f count → f ≡ 0
+      clear zero e = refl
+      clear (suc f) e = absurd (let z : _≡_ {A = ℕ} 0 1 = cc in omega arith)
+
+  -- a refusal names the first fault, at place 0, and leaves the gates as they were
+  pub refusal-is-first : (number place : ℕ) → WriteList n w rows g g′ (Refused number place)
+      → (number ≡ writeFault n w rows (length g)) × (number ≢ 0) × (place ≡ 0) × (g′ ≡ g)
+  refusal-is-first number place x = go (writeFault n w rows (length g)) (x .reply)
+    where
+      go : (f : ℕ) → Refused number place ≡ writeReply f 0 → (number ≡ f) × (number ≢ 0) × (place ≡ 0) × (g′ ≡ g)
+      go zero e = absurd (let z : _≡_ {A = ℕ} 0 1 = cc in omega arith)
+      go (suc f) e = let s : number ≡ suc f = cc in (s, omega arith, cc, x .gates-left)
+
+-- ---- what the promise of `write` means after Done
+
+module _ (n : ℕ) (w rows g g′ : List ℕ) (count : ℕ) (x : WriteList n w rows g g′ (Done count)) where
+  few : n ≤ maxWires
+  few = written-is-writable n w rows g g′ count x .few
+
+  -- run on a basis state, the gates bring it where the rows say, with the phase that the weights say
+  pub written-runs : (s : ℕ) → s < 2 ^ n → run (frontGates count g′) s ≡ says n (tables w rows) s
+  written-runs s l =
+      read-runs maxWires n few (frontGates count g′) (x .gates-left .list .formed) s l ∙ ap (λ (r : Reading). says n r s) (x .gates-left .list .reads)
+
+  -- the reader of the same gates gives back the weights and rows
+  pub written-reads-back : readBytes n (take (gateBytes * count) g′) ≡ tables w rows
+  written-reads-back = x .gates-left .list .reads
+
+  -- at most n * 2^n + n * n gates; 2,112 on eight wires
+  pub written-few : (count ≤ writtenGates n) × (count ≤ maxWrittenGates)
+  written-few =
+      let l : count ≤ writtenGates n = omega (arith, x .gates-left .counted, x .gates-left .list .short) in
+      (l, omega (arith, longest n few))

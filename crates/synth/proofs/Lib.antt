@@ -1,0 +1,17 @@
+pub mod GateBytes
+pub mod Stores
+pub mod Lists
+pub mod Cnots
+pub mod Spelled
+pub mod KindCounts
+pub mod OneParity
+pub mod AllParities
+pub mod Pivots
+pub mod MaskSteps
+pub mod RowsWritten
+pub mod PhaseTurns
+pub mod RowTurns
+pub mod RowRule
+pub mod WriteBack
+pub mod WriteWays
+pub mod Laws

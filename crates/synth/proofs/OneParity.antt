@@ -1,0 +1,139 @@
+-- One parity: CNOTs into its lowest wire, the spelling, the same CNOTs. The rows come back, and the weight is added at the parity. Over n and N.
+use mathlib.Core.List.{_++_, List, [], append-nil}
+use mathlib.Core.Logic.{_≢_}
+use mathlib.Core.Path.{ap, ap₂, refl, sym, _∙_, _≡_}
+use Prim.Native.Nat.{_%_, _*_, _+_, _<_, _^_, suc, zero, ℕ, _≤_}
+use native.Mathlib.Nat.{le-refl}
+use native.Mathlib.Omega.{arith}
+use lib.Bits.{bitXor, xor-comm, xor-lt}
+use lib.ListN.{getD, length, length-append, length-set}
+use lib.Pow.{pow-lt, pow-mono}
+use lib.Seq.{getD-set-same}
+use Rattle.circuit.proofs.Sound.{combine-first-rows, first-row, length-first, read-append}
+use Rattle.circuit.proofs.Steps.{tables}
+use Rattle.circuit.specs.Faults.{AllWellFormed}
+use Rattle.circuit.specs.Read.{firstRows, readFrom}
+use Rattle.gf2.proofs.BitCounts.{flip-other, flip-same}
+use Rattle.gf2.proofs.Gather.{gather, gather-twice}
+use Rattle.gf2.proofs.Leading.{bit-inside, bit-lowest}
+use Rattle.gf2.proofs.Sum.{sum-update}
+use Rattle.gf2.proofs.Xor.{xor-cancel}
+use Rattle.gf2.specs.Bit.{bit}
+use Rattle.gf2.specs.Selection.{combine}
+use Rattle.gf2.specs.Sum.{sum}
+use Rattle.gf2.specs.Table.{addAt}
+use Rattle.synth.proofs.Cnots.{formed-cnots, kinds-cnots, length-cnots, read-cnots}
+use Rattle.synth.proofs.Lists.{formed-append, kinds-append}
+use Rattle.synth.proofs.Spelled.{formed-spell, kinds-away, kinds-here, length-spell, read-spell}
+use Rattle.synth.specs.Spelling.{kindsAt, spelling}
+use Rattle.synth.specs.Writing.{around, cnots, lowest, others, spell, writeParity}
+
+module _ (n q t v : ℕ) (less : q < 2 ^ n) (off : bit q t ≡ 0) (w rows : List ℕ) (p : ℕ) (low : t < length rows) (holds : bitXor (getD rows t 0) (combine q rows) ≡ p) where
+  held : List ℕ
+  held = gather t q rows
+
+  at : getD held t 0 ≡ p
+  unfolding held
+  at = getD-set-same rows t (bitXor (getD rows t 0) (combine q rows)) 0 low ∙ holds
+
+  in-between : readFrom (cnots n q t) (tables w rows) ≡ tables w held
+  unfolding held
+  in-between = read-cnots n q t w rows less low off
+
+  pub read-around : v < 7 → p < length w → readFrom (around n q t (suc v)) (tables w rows) ≡ tables (addAt 8 w p (suc v)) rows
+  unfolding around held
+  read-around small l =
+      read-append (cnots n q t) (spell (suc v) t ++ cnots n q t) (tables w rows)
+      ∙ ap (readFrom (spell (suc v) t ++ cnots n q t)) in-between
+      ∙ read-append (spell (suc v) t) (cnots n q t) (tables w held)
+      ∙ ap (readFrom (cnots n q t)) (read-spell v t w held small (rw at l) ∙ ap (λ (c : ℕ). tables (addAt 8 w c (suc v)) held) at)
+      ∙ read-cnots n q t (addAt 8 w p (suc v)) held less (rw (length-set rows t (bitXor (getD rows t 0) (combine q rows))) low) off
+      ∙ ap (tables (addAt 8 w p (suc v))) (gather-twice t q off rows low)
+
+  -- only the spelled gates add phases, and they do at p
+  kinds-around : (s : ℕ) → kindsAt s (around n q t v) (tables w rows) ≡ kindsAt s (spell v t) (tables w held)
+  unfolding around
+  kinds-around s =
+      kinds-append s (cnots n q t) (spell v t ++ cnots n q t) (tables w rows)
+      ∙ rw (kinds-cnots s n q t (tables w rows), in-between, kinds-append s (spell v t) (cnots n q t) (tables w held), kinds-cnots s n q t (readFrom (spell v t) (tables w held)))
+      (append-nil (kindsAt s (spell v t) (tables w held)))
+
+  pub around-here : v < 8 → kindsAt p (around n q t v) (tables w rows) ≡ spelling v
+  around-here small = kinds-around p ∙ kinds-here p v t small w held at
+
+  pub around-away : v < 8 → (s : ℕ) → p ≢ s → kindsAt s (around n q t v) (tables w rows) ≡ []
+  around-away small s ne = kinds-around s ∙ kinds-away s v t small w held (λ e. ne (sym at ∙ e))
+
+-- the lowest wire of p, and its other wires
+module _ (N n p : ℕ) (fit : n ≤ N) (some : p ≢ 0) (less : p < 2 ^ n) where
+  on : bit p (lowest N p) ≡ 1
+  on = let m : 2 ^ n ≤ 2 ^ N = pow-mono fit in bit-lowest N p some (omega arith)
+
+  pub lowest-inside : lowest N p < n
+  lowest-inside = bit-inside n p (lowest N p) less on
+
+  others-off : bit (others N p) (lowest N p) ≡ 0
+  others-off = flip-same p (lowest N p) ∙ ap (λ (c : ℕ). (c + 1) % 2) on
+
+  others-less : others N p < 2 ^ n
+  others-less = xor-lt n p (2 ^ lowest N p) less (pow-lt lowest-inside)
+
+  -- one wire fewer than p
+  others-count : sum n (λ i. bit (others N p) i) + 1 ≡ sum n (λ i. bit p i)
+  others-count =
+      omega (
+        arith,
+        sum-update n (lowest N p) (λ i. bit p i) (λ i. bit (others N p) i) lowest-inside (λ i l ne. sym (flip-other p (lowest N p) i ne)),
+        on,
+        others-off,
+      )
+
+  -- from the first rows, the lowest wire comes to hold p
+  low : lowest N p < length (firstRows N n)
+  low = rw (length-first N n) (omega (arith, lowest-inside))
+
+  holds : bitXor (getD (firstRows N n) (lowest N p) 0) (combine (others N p) (firstRows N n)) ≡ p
+  holds =
+      ap₂ bitXor (first-row N n (lowest N p) lowest-inside fit) (combine-first-rows N n (others N p) fit others-less)
+      ∙ xor-comm (2 ^ lowest N p) (others N p) ∙ xor-cancel p (2 ^ lowest N p)
+
+  -- the first rows again, and v added at p
+  pub read-parity : (v : ℕ) (w : List ℕ) → v < 7 → p < length w
+      → readFrom (writeParity N n p (suc v)) (tables w (firstRows N n)) ≡ tables (addAt 8 w p (suc v)) (firstRows N n)
+  unfolding writeParity
+  read-parity v w h l = read-around n (others N p) (lowest N p) v others-less others-off w (firstRows N n) p low holds h l
+
+  pub parity-here : (v : ℕ) (w : List ℕ) → v < 8 → kindsAt p (writeParity N n p v) (tables w (firstRows N n)) ≡ spelling v
+  unfolding writeParity kindsAt spelling
+  parity-here zero w h = refl
+  parity-here (suc v) w h = around-here n (others N p) (lowest N p) (suc v) others-less others-off w (firstRows N n) p low holds h
+
+  pub parity-away : (v : ℕ) (w : List ℕ) → v < 8 → (s : ℕ) → p ≢ s → kindsAt s (writeParity N n p v) (tables w (firstRows N n)) ≡ []
+  unfolding writeParity kindsAt
+  parity-away zero w h s ne = refl
+  parity-away (suc v) w h s ne = around-away n (others N p) (lowest N p) (suc v) others-less others-off w (firstRows N n) p low holds h s ne
+
+  pub formed-parity : (v : ℕ) → v < 8 → AllWellFormed n (writeParity N n p v)
+  unfolding writeParity around
+  formed-parity zero h = tt
+  formed-parity (suc v) h =
+      let q : ℕ = others N p in
+      let t : ℕ = lowest N p in
+      let c : AllWellFormed n (cnots n q t) = formed-cnots n n q t (le-refl n) lowest-inside others-off in
+      formed-append n (cnots n q t) (spell (suc v) t ++ cnots n q t) c (formed-append n (spell (suc v) t) (cnots n q t) (formed-spell n (suc v) t h lowest-inside) c)
+
+  -- at most two gates for each wire of p
+  pub length-parity : (v : ℕ) → v < 8 → length (writeParity N n p v) ≤ 2 * sum n (λ i. bit p i)
+  unfolding writeParity around
+  length-parity zero h = omega arith
+  length-parity (suc v) h =
+      let q : ℕ = others N p in
+      let t : ℕ = lowest N p in
+      omega (
+        arith,
+        length-append (cnots n q t) (spell (suc v) t ++ cnots n q t),
+        length-append (spell (suc v) t) (cnots n q t),
+        length-cnots n q t,
+        length-spell (suc v) t h,
+        others-count,
+      )

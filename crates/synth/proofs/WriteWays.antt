@@ -1,0 +1,137 @@
+-- One law for each way out of the entry `write`: the tests that led there give the reply, and the gates are as it says.
+use mathlib.Core.List.{_++_, List}
+use mathlib.Core.Logic.{_≢_}
+use mathlib.Core.Path.{ap, refl, subst, sym, _∙_, _≡_}
+use Prim.Native.Nat.{_*_, _^_, suc, zero, ℕ, _≤_}
+use native.Mathlib.Decide.{decLe}
+use native.Mathlib.Nat.{mul-le-mul}
+use native.Mathlib.Omega.{arith}
+use lib.ListN.{length, take}
+use lib.Pow.{pow-mono}
+use borrow.Author.Tests.{le-leb, lt-leb}
+use Rattle.circuit.proofs.Judging.{or-pass, or-well}
+use Rattle.circuit.specs.Faults.{Accepted, orElse}
+use Rattle.circuit.specs.Gate.{Gate, bytesOf, gatesOf}
+use Rattle.circuit.specs.Limits.{gateBytes, maxWires, maxWrittenGates, rowBytes, weightBytes, writeBytes, writtenGates}
+use Rattle.circuit.specs.Sound.{SoundRows, SoundWeights}
+use Rattle.weights.proofs.TableRule.{weights-sound}
+use Rattle.weights.proofs.Ways.{call-passes, passes-call}
+use Rattle.weights.specs.Faults.{callFault, weightsFault}
+use Rattle.synth.proofs.GateBytes.{gates-of-bytes, length-bytes}
+use Rattle.synth.proofs.RowRule.{or-first, or-second, rows-sound}
+use Rattle.synth.proofs.Stores.{room-first, room-then, stored-front, stored-long, stored-rest, stored-then}
+use Rattle.synth.proofs.WriteBack.{list-written}
+use Rattle.synth.specs.Entry.{WriteList, Wrote, frontGates, writeReply}
+use Rattle.synth.specs.Faults.{Writable, roomFault, rowsFault, writeFault}
+use Rattle.synth.specs.Storing.{Room, Stored}
+use Rattle.synth.specs.Writing.{writeList, writePhases, writeRows}
+use Rattle.synth.specs.declared.Written.{Written}
+use Rattle.synth.specs.declared.Written.the-variants.{Done, Refused}
+
+-- a written list for n wires is no longer than the longest
+pub longest : (n : ℕ) → n ≤ maxWires → writtenGates n ≤ maxWrittenGates
+longest n h =
+    let a : n * 2 ^ n ≤ maxWires * 2 ^ maxWires = mul-le-mul {n₁ = n} {m₁ = 2 ^ n} {n₂ = maxWires} {m₂ = 2 ^ maxWires} h (pow-mono {i = n} {j = maxWires} h) in
+    let b : n * n ≤ maxWires * maxWires = mul-le-mul {n₁ = n} {m₁ = n} {n₂ = maxWires} {m₂ = maxWires} h h in
+    omega arith
+
+-- ---- the checks
+
+pub room-pass : (m : ℕ) → roomFault m ≡ 0 → writeBytes ≤ m
+room-pass m e = go (decLe writeBytes m)
+  where
+    go : Dec (writeBytes ≤ m) → writeBytes ≤ m
+    go (yes l) = l
+    go (no g) = absurd (omega (arith, simp (lt-leb writeBytes m (omega arith)) at e))
+
+pub room-well : (m : ℕ) → writeBytes ≤ m → roomFault m ≡ 0
+room-well m l = simp (le-leb writeBytes m l)
+
+module _ (n : ℕ) (w rows : List ℕ) (gates : ℕ) where
+  pub call-refuses : (f : ℕ) → f ≡ callFault n (roomFault gates) (weightsFault n w) → f ≢ 0 → f ≡ writeFault n w rows gates
+  unfolding writeFault
+  call-refuses f e h = or-first f (rowsFault rowBytes n rows) h ∙ ap (λ (x : ℕ). orElse x (rowsFault rowBytes n rows)) e
+
+  pub rows-decide : (f : ℕ) → f ≡ callFault n (roomFault gates) (weightsFault n w) → f ≡ 0 → rowsFault rowBytes n rows ≡ writeFault n w rows gates
+  unfolding writeFault
+  rows-decide f e z = or-second (callFault n (roomFault gates) (weightsFault n w)) (rowsFault rowBytes n rows) (sym e ∙ z)
+
+  pub fault-ready : writeFault n w rows gates ≡ 0 → Writable n w rows gates
+  unfolding writeFault
+  fault-ready e =
+      let a = or-pass (callFault n (roomFault gates) (weightsFault n w)) (rowsFault rowBytes n rows) e in
+      let b = call-passes n (roomFault gates) (weightsFault n w) (a .0) in
+      record {
+        some = b .0;
+        few = b .1;
+        room = room-pass gates (b .2);
+        weights-sound = weights-sound weightBytes n w .0 (b .3);
+        rows-sound = rows-sound rowBytes n rows .0 (a .1);
+      }
+
+  pub ready-faultless : Writable n w rows gates → writeFault n w rows gates ≡ 0
+  unfolding writeFault
+  ready-faultless r =
+      or-well (callFault n (roomFault gates) (weightsFault n w)) (rowsFault rowBytes n rows)
+      (passes-call n (roomFault gates) (weightsFault n w) (r .some) (r .few) (room-well gates (r .room)) (weights-sound weightBytes n w .1 (r .weights-sound)))
+      (rows-sound rowBytes n rows .1 (r .rows-sound))
+
+-- ---- the ways out
+
+refusal : (f count : ℕ) → f ≢ 0 → Refused f 0 ≡ writeReply f count
+refusal zero count h = absurd (h refl)
+refusal (suc f) count h = refl
+
+module _ (n : ℕ) (w rows g : List ℕ) (f : ℕ) (judged : f ≡ writeFault n w rows (length g)) where
+  pub write-refused : f ≢ 0 → WriteList n w rows g g (Refused f 0)
+  write-refused h = record { reply = refusal f 0 h ∙ ap (λ (x : ℕ). writeReply x 0) judged; gates-left = refl }
+
+  module _ (clear : f ≡ 0) where
+    ready : Writable n w rows (length g)
+    ready = fault-ready n w rows (length g) (sym judged ∙ clear)
+
+    wrote : Wrote maxWires n w rows (writeList maxWires n w rows)
+    wrote = list-written maxWires n (ready .few) w rows (ready .weights-sound) (ready .rows-sound)
+
+    room : Room g 0 (writePhases maxWires n w (2 ^ n) ++ writeRows n rows)
+    room = omega (arith, wrote .short, longest n (ready .few), ready .room)
+
+    pub phases-ready : (n ≤ maxWires) × SoundWeights weightBytes n w × Room g 0 (writePhases maxWires n w (2 ^ n))
+    phases-ready = (ready .few, ready .weights-sound, room-first g 0 (writePhases maxWires n w (2 ^ n)) (writeRows n rows) room)
+
+    pub rows-long : length rows ≡ rowBytes
+    rows-long = ready .rows-sound .long
+
+    -- m is the copy of the rows
+    module _ (g₁ : List ℕ) (k : ℕ) (a : Stored g g₁ 0 k (writePhases maxWires n w (2 ^ n))) (m : List ℕ) (same : m ≡ rows) where
+      pub rows-ready : (n ≤ maxWires) × SoundRows maxWires n m × Room g₁ k (writeRows n m)
+      rows-ready = rw same (ready .few, ready .rows-sound, room-then g g₁ 0 k (writePhases maxWires n w (2 ^ n)) (writeRows n rows) a room)
+
+      pub write-done : (g₂ : List ℕ) (count : ℕ) → Stored g₁ g₂ k count (writeRows n m) → WriteList n w rows g g₂ (Done count)
+      write-done g₂ count b =
+          record {
+            reply = ap (λ (x : ℕ). writeReply x count) (sym clear ∙ judged);
+            gates-left = record { counted = omega (arith, all .count, ap length front); accepted = accepted; list = subst (λ (hs : List Gate). Wrote maxWires n w rows hs) (sym front) wrote; rest = stored-rest g g₂ count gs all room; long = stored-long g g₂ count gs all room };
+          }
+        where
+          gs : List Gate
+          gs = writePhases maxWires n w (2 ^ n) ++ writeRows n rows
+
+          all : Stored g g₂ 0 count gs
+          all = stored-then g g₁ 0 k (writePhases maxWires n w (2 ^ n)) (writeRows n rows) a g₂ count (subst (λ (x : List ℕ). Stored g₁ g₂ k count (writeRows n x)) same b)
+
+          bytes : take (gateBytes * count) g₂ ≡ bytesOf gs
+          bytes = stored-front g g₂ count gs all room
+
+          front : frontGates count g₂ ≡ gs
+          front = ap gatesOf bytes ∙ gates-of-bytes gs
+
+          accepted : Accepted n (take (gateBytes * count) g₂)
+          accepted =
+              record {
+                some = ready .some;
+                few = ready .few;
+                whole = rw (bytes, length-bytes gs) (omega arith);
+                short = rw (bytes, length-bytes gs) (omega (arith, wrote .short, longest n (ready .few)));
+                formed = rw front (wrote .formed);
+              }

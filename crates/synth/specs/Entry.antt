@@ -1,0 +1,79 @@
+-- The entry `write`: its reply and what it leaves in the lent gates, for sound and faulty arguments alike. Which CNOTs are used, and the order of
+-- parities, are free (document 01, "The new weights"), and so is the number of gates: it is named with what holds of it.
+use mathlib.Core.List.{List}
+use mathlib.Core.Path.{_≡_}
+use Prim.Native.Nat.{_*_, _≤_, suc, zero, ℕ}
+use lib.ListN.{drop, length, take}
+use Rattle.circuit.specs.Faults.{Accepted, AllWellFormed}
+use Rattle.circuit.specs.Gate.{Gate, gatesOf, kindOf, tGates}
+use Rattle.circuit.specs.Limits.{gateBytes, maxWires, writtenGates}
+use Rattle.circuit.specs.OddSet.{members, oddSet}
+use Rattle.circuit.specs.Read.{read, start}
+use Rattle.circuit.specs.Sound.{weight}
+use Rattle.circuit.specs.declared.gates.Kind.the-variants.{Phase}
+use Rattle.synth.specs.Faults.{writeFault}
+use Rattle.synth.specs.Spelling.{gatesOfKind, kindsAt, spelledGates, spelling}
+use Rattle.synth.specs.declared.Written.{Written}
+use Rattle.synth.specs.declared.Written.the-variants.{Done, Refused}
+
+-- ---- the reply
+
+-- document 01's number of a reply, 0 for none, and its place; and the number of gates written, 0 where none are
+abbrev pub writtenNumber : Written → ℕ
+writtenNumber (Done count) = 0
+writtenNumber (Refused number place) = number
+
+abbrev pub writtenPlace : Written → ℕ
+writtenPlace (Done count) = 0
+writtenPlace (Refused number place) = place
+
+abbrev pub writtenCount : Written → ℕ
+writtenCount (Done count) = count
+writtenCount (Refused number place) = 0
+
+-- a fault is refused, at place 0; else that many gates are written
+abbrev pub writeReply : ℕ → ℕ → Written
+writeReply zero count = Done count
+writeReply (suc fault) count = Refused (suc fault) 0
+
+-- ---- the list
+
+-- a list of gates written for weights and rows on n wires, of N at most
+pub record Wrote (N n : ℕ) (weights rows : List ℕ) (gs : List Gate) : Type 0 where
+  -- no gate has a fault
+  pub formed : AllWellFormed n gs
+  -- reading it gives exactly these weights and rows
+  pub reads : read N n gs ≡ record { weights = weights; rows = rows }
+  -- at most n * 2^n gates for the weights and n * n for the rows
+  pub short : length gs ≤ writtenGates n
+  -- the gates that add their phase at p are, in order, those that spell p's weight
+  pub spelled : (p : ℕ) → kindsAt p gs (start N n) ≡ spelling (weight weights p)
+  -- so there are as many gates of each kind of phase gate as the spellings of all weights have
+  pub kinds : (kind v : ℕ) → kindOf kind ≡ Phase v → gatesOfKind kind gs ≡ spelledGates kind weights
+  -- and as many T and T dagger gates as the odd set has members
+  pub t-gates : tGates gs ≡ members (oddSet weights)
+
+-- ---- the lent gates
+
+-- the gates of the first k * 3 bytes
+abbrev pub frontGates : ℕ → List ℕ → List Gate
+frontGates k bytes = gatesOf (take (gateBytes * k) bytes)
+
+-- from `gates` to `gates′`, that many gates were written for these weights and rows
+pub record WroteBytes (n : ℕ) (weights rows gates gates′ : List ℕ) (count : ℕ) : Type 0 where
+  pub counted : count ≡ length (frontGates count gates′)
+  -- none of faults 1 to 5
+  pub accepted : Accepted n (take (gateBytes * count) gates′)
+  pub list : Wrote maxWires n weights rows (frontGates count gates′)
+  -- every byte after the last gate is as it was
+  pub rest : drop (gateBytes * count) gates′ ≡ drop (gateBytes * count) gates
+  pub long : length gates′ ≡ length gates
+
+abbrev pub GatesLeft : Written → ℕ → List ℕ → List ℕ → List ℕ → List ℕ → Type 0
+GatesLeft (Done count) n weights rows gates gates′ = WroteBytes n weights rows gates gates′ count
+GatesLeft (Refused number place) n weights rows gates gates′ = gates′ ≡ gates
+
+-- `write`, called with these weights, rows and gates, replies r and leaves gates′
+pub record WriteList (n : ℕ) (weights rows gates gates′ : List ℕ) (r : Written) : Type 0 where
+  pub reply : r ≡ writeReply (writeFault n weights rows (length gates)) (writtenCount r)
+  pub gates-left : GatesLeft r n weights rows gates gates′

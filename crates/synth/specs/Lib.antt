@@ -1,0 +1,5 @@
+pub mod Spelling
+pub mod Faults
+pub mod Entry
+pub mod Writing
+pub mod Storing

@@ -1,0 +1,68 @@
+-- Document 01, "The new weights": "Writing spells weight 1 to 7 as T; S; S T; Z; Z T; S dagger; T dagger." And what it means that a list spells
+-- its weights so, whatever its CNOTs and its order of parities are.
+use mathlib.Core.Bool.{Bool, false, true}
+use mathlib.Core.List.{_++_, List, [], _∷_}
+use Prim.Native.Nat.{_+_, ℕ}
+use lib.Dec.{eqb}
+use lib.ListN.{getD, length}
+use Rattle.gf2.specs.Sum.{delta, sum}
+use Rattle.circuit.specs.Gate.{Gate, gate, kindOf}
+use Rattle.circuit.specs.Read.{Reading, readGate, row}
+use Rattle.circuit.specs.Sound.{weight}
+use Rattle.circuit.specs.declared.gates.Kind.{Kind}
+use Rattle.circuit.specs.declared.gates.Kind.the-variants.{Cnot, Phase, Unknown}
+
+-- ---- the kinds of document 01, "Gates and what they do"
+
+abbrev pub CNOT : ℕ
+CNOT = 1
+
+abbrev pub T : ℕ
+T = 2
+
+abbrev pub S : ℕ
+S = 3
+
+abbrev pub Z : ℕ
+Z = 4
+
+abbrev pub S-dagger : ℕ
+S-dagger = 5
+
+abbrev pub T-dagger : ℕ
+T-dagger = 6
+
+-- ---- the spelling
+
+-- the kinds of the gates that spell a weight, in order, from weight 0, which no gate spells, to weight 7
+unfoldable pub spelling : ℕ → List ℕ
+spelling v =
+    getD ([] ∷ (T ∷ []) ∷ (S ∷ []) ∷ (S ∷ T ∷ []) ∷ (Z ∷ []) ∷ (Z ∷ T ∷ []) ∷ (S-dagger ∷ []) ∷ (T-dagger ∷ []) ∷ []) v []
+
+-- how many of these kinds are that kind
+unfoldable pub occurs : ℕ → List ℕ → ℕ
+occurs kind [] = 0
+occurs kind (k ∷ ks) = delta kind k + occurs kind ks
+
+-- how many gates of that kind the spellings of all weights have
+unfoldable pub spelledGates : ℕ → List ℕ → ℕ
+spelledGates kind w = sum (length w) (λ p. occurs kind (spelling (weight w p)))
+
+-- ---- what a list spells
+
+-- how many gates of that kind a list has
+unfoldable pub gatesOfKind : ℕ → List Gate → ℕ
+gatesOfKind kind [] = 0
+gatesOfKind kind (gate k a b ∷ gs) = delta kind k + gatesOfKind kind gs
+
+-- a kind that is a phase gate's, if its wire holds the parity asked for
+abbrev pub kindHere : Kind → Bool → ℕ → List ℕ
+kindHere (Phase v) true kind = kind ∷ []
+kindHere (Phase v) false kind = []
+kindHere Cnot holds kind = []
+kindHere Unknown holds kind = []
+
+-- the kinds of the gates of a list that add their phase at parity p, in order; r is the reading before the list
+unfoldable pub kindsAt : ℕ → List Gate → Reading → List ℕ
+kindsAt p [] r = []
+kindsAt p (gate kind a b ∷ gs) r = kindHere (kindOf kind) (eqb (row r a) p) kind ++ kindsAt p gs (readGate (gate kind a b) r)

@@ -1,0 +1,104 @@
+// The faults of a call that writes a list: 1, 8, 6, then 7 of document 01. Each function gives the fault's number, and 0 where there is none.
+ghost use mathlib.Core.Path.{_≡_};
+ghost use Prim.Native.Nat.{_-_, _^_, _≤_};
+ghost use lib.ListN.{length};
+ghost use Rattle.circuit.specs.Limits.{maxWires, rowBytes};
+ghost use Rattle.synth.specs.Faults.{roomFault, rowMost, beyondFault, cancelFault, rowsFault, writeFault};
+use crate::masks::pivot_of;
+use crate::masks::row_step;
+use circuit::faults::OUTPUT;
+use circuit::limits::Parity;
+use circuit::limits::ROW_BYTES;
+use circuit::limits::WRITE_BYTES;
+use weights::faults::call_fault;
+use weights::faults::weights_fault;
+
+pub const ROW_RULE: u8 = 7;
+
+// The first fault of a call, by the length of the gates lent.
+pub fn write_fault(n: usize, weights: &[u8], rows: &[u8], gates: usize) -> u8
+    ensures { λ r. ⌜ r ≡ writeFault n (now (weights .entry)) (now (rows .entry)) gates ⌝ }
+{
+    let fault = call_fault(n, room_fault(gates), weights_fault(n, weights));
+    if fault != 0 {
+        return fault;
+    }
+    rows_fault(n, rows)
+}
+
+// Fault 8: lent gates too short for the longest written list.
+fn room_fault(gates: usize) -> u8
+    ensures { λ r. ⌜ r ≡ roomFault gates ⌝ }
+{
+    if WRITE_BYTES <= gates { 0 } else { OUTPUT }
+}
+
+// Fault 7: rows that are not 8 bytes, have a bit or row beyond n, or are not invertible.
+fn rows_fault(n: usize, rows: &[u8]) -> u8
+    requires { ⌜ n ≤ maxWires ⌝ }
+    ensures { λ r. ⌜ r ≡ rowsFault rowBytes n (now (rows .entry)) ⌝ }
+{
+    if rows.len() != ROW_BYTES {
+        return ROW_RULE;
+    }
+    let fault = beyond_fault(n, rows);
+    if fault != 0 {
+        return fault;
+    }
+    cancel_fault(n, copied(rows))
+}
+
+// A bit or row beyond n.
+fn beyond_fault(n: usize, rows: &[u8]) -> u8
+    requires { ⌜ n ≤ maxWires ⌝ }
+    ensures { λ r. ⌜ r ≡ beyondFault n 0 (now (rows .entry)) ⌝ }
+{
+    let mut i: usize = 0;
+    while i < rows.len() {
+        if rows[i] > row_most(n, i) {
+            return ROW_RULE;
+        }
+        i += 1;
+    }
+    0
+}
+
+fn row_most(n: usize, i: usize) -> Parity
+    requires { ⌜ n ≤ maxWires ⌝ }
+    ensures { λ r. ⌜ r ≡ rowMost n i ⌝ }
+{
+    if i < n {
+        ((1usize << n) - 1) as Parity
+    } else {
+        0
+    }
+}
+
+// Dependent rows: some mask, on the way to 2^i, has no pivot.
+fn cancel_fault(n: usize, rows: [Parity; ROW_BYTES]) -> u8
+    requires { ⌜ (n ≤ maxWires) × (length rows ≡ rowBytes) × (beyondFault n 0 rows ≡ 0) ⌝ }
+    ensures { λ r. ⌜ r ≡ cancelFault (2 ^ n - 1) rows ⌝ }
+{
+    let mut masks = rows;
+    for r in 0..n {
+        let b = pivot_of(n, r, masks[r]);
+        if b >= n {
+            return ROW_RULE;
+        }
+        let s = row_step(masks, r, b);
+        masks = s.masks;
+    }
+    0
+}
+
+// Eight lent rows, as a value. Internal.
+pub fn copied(rows: &[u8]) -> [Parity; ROW_BYTES]
+    requires { ⌜ length (now rows) ≡ rowBytes ⌝ }
+    ensures { λ r. ⌜ r ≡ now (rows .entry) ⌝ }
+{
+    let mut r = [0 as Parity; ROW_BYTES];
+    for i in 0..ROW_BYTES {
+        r[i] = rows[i];
+    }
+    r
+}

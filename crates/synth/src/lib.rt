@@ -1,0 +1,38 @@
+// Writing a list of gates from weights and rows (document 01, "The new weights").
+// Public entry: `write`. Its promise is the record WriteList of specs/Entry; proofs/Laws says what the promise means.
+ghost use mathlib.Core.Path.{_≡_};
+ghost use Rattle.synth.specs.Entry.{WriteList};
+
+pub mod faults;
+pub mod masks;
+pub mod phases;
+pub mod rows;
+pub mod spelling;
+pub mod storing;
+
+use faults::copied;
+use faults::write_fault;
+use phases::write_phases;
+use rows::write_rows;
+
+// The reply of `write`: the number of gates written, or document 01's number and place of the fault.
+pub enum Written {
+    Done { count: usize },
+    Refused { number: u8, place: usize },
+}
+
+// Writes gates for weights and rows into lent bytes, from the first byte on. A refusal leaves them as they were.
+pub fn write(n: usize, weights: &[u8], rows: &[u8], gates: &mut [u8]) -> Written
+    ensures { λ r. ⌜ WriteList n (now (weights .entry)) (now (rows .entry)) (now (gates .entry)) (now (gates .exit)) r ⌝ }
+{
+    let fault = write_fault(n, weights, rows, gates.len());
+    if fault != 0 {
+        return Written::Refused {
+            number: fault,
+            place: 0,
+        };
+    }
+    let phases = write_phases(gates, n, weights);
+    let count = write_rows(gates, phases, n, copied(rows));
+    Written::Done { count: count }
+}

@@ -1,0 +1,74 @@
+// Solving for the rows: mask i names the wires whose parities make row i, and CNOTs bring mask i to 2^i, row by row.
+// Internal: the caller has found no fault.
+ghost use mathlib.Core.Path.{_≡_};
+ghost use Prim.Native.Nat.{_*_, _<_, _≤_};
+ghost use lib.ListN.{length, getD};
+ghost use Rattle.circuit.specs.Limits.{maxWires, rowBytes};
+ghost use Rattle.synth.specs.Writing.{recount, pivot, lack, surplus, nextMasks};
+use circuit::limits::Parity;
+use circuit::limits::ROW_BYTES;
+
+// One row: CNOTs from the wires of `lack` into the pivot, then from the wires of `surplus` into the row's wire; the masks after them.
+pub struct Step {
+    pub lack: Parity,
+    pub surplus: Parity,
+    pub masks: [Parity; ROW_BYTES],
+}
+
+// The row of wire r, with pivot b.
+pub fn row_step(masks: [Parity; ROW_BYTES], r: usize, b: usize) -> Step
+    requires { ⌜ (r < maxWires) × (b < maxWires) × (length masks ≡ rowBytes) ⌝ }
+    ensures { λ s. ⌜ (s .lack ≡ lack r (getD masks r 0)) × (s .surplus ≡ surplus r b masks) × (s .masks ≡ nextMasks r b masks) ⌝ }
+{
+    let q = lack_of(r, masks[r]);
+    let full = recount_masks(masks, b, q);
+    let p = full[r] ^ (1 << r);
+    Step {
+        lack: q,
+        surplus: p,
+        masks: recount_masks(full, r, p),
+    }
+}
+
+// The lowest wire from r on that m names; n if there is none.
+pub fn pivot_of(n: usize, r: usize, m: Parity) -> usize
+    requires { ⌜ (n ≤ maxWires) × (r ≤ n) ⌝ }
+    ensures { λ b. ⌜ b ≡ pivot n r m ⌝ }
+{
+    let mut b = r;
+    while b < n {
+        if (m >> b) % 2 == 1 {
+            return b;
+        }
+        b += 1;
+    }
+    b
+}
+
+// What mask m lacks of wire r.
+fn lack_of(r: usize, m: Parity) -> Parity
+    requires { ⌜ r < maxWires ⌝ }
+    ensures { λ q. ⌜ q ≡ lack r m ⌝ }
+{
+    if (m >> r) % 2 == 1 { 0 } else { 1 << r }
+}
+
+// The masks after CNOTs into wire t from the wires of q.
+fn recount_masks(masks: [Parity; ROW_BYTES], t: usize, q: Parity) -> [Parity; ROW_BYTES]
+    requires { ⌜ (t < maxWires) × (length masks ≡ rowBytes) ⌝ }
+    ensures { λ r. ⌜ r ≡ recount t q masks ⌝ }
+{
+    let mut s = masks;
+    for i in 0..ROW_BYTES {
+        s[i] = s[i] ^ only_if((s[i] >> t) % 2, q);
+    }
+    s
+}
+
+// q if the bit is set, else 0.
+fn only_if(c: u8, q: Parity) -> Parity
+    requires { ⌜ c < 2 ⌝ }
+    ensures { λ r. ⌜ r ≡ c * q ⌝ }
+{
+    if c == 0 { 0 } else { q }
+}

@@ -1,0 +1,99 @@
+-- Demand 3 from its parts: reading is running, moves keep the signature and afford themselves, none is left, the new weights have the phases of C,
+-- and the list written reads back.
+use mathlib.Core.List.{List}
+use mathlib.Core.Path.{ap, ap₂, sym, _∙_, _≡_}
+use Prim.Native.Nat.{_+_, _<_, _^_, ℕ, _≤_}
+use native.Mathlib.Omega.{arith}
+use lib.ListN.{length}
+use lib.Pow.{high}
+use Rattle.circuit.proofs.OddSet.{length-odd, odd-mark, odd-set-at-most-t}
+use Rattle.circuit.proofs.ReadRuns.{read-runs}
+use Rattle.circuit.proofs.Sound.{read-sound}
+use Rattle.circuit.specs.Faults.{AllWellFormed}
+use Rattle.circuit.specs.Gate.{Gate, tGates}
+use Rattle.circuit.specs.Limits.{maxMembers, maxWires, moveBytes, weightBytes}
+use Rattle.circuit.specs.OddSet.{members, oddSet}
+use Rattle.circuit.specs.Read.{read}
+use Rattle.circuit.specs.Run.{run}
+use Rattle.circuit.specs.Says.{endState, phaseAt}
+use Rattle.circuit.specs.Sound.{SoundMarks, SoundWeights}
+use Rattle.moves.proofs.Bound.{bound}
+use Rattle.moves.proofs.Finding.{none}
+use Rattle.moves.proofs.Laws.{limits-suffice, none-legal-bound}
+use Rattle.moves.proofs.Logs.{logged-length}
+use Rattle.moves.proofs.Replaying.{replays-shrinks, replays-signature, replays-sound, signature-trans}
+use Rattle.moves.specs.Log.{logged}
+use Rattle.moves.specs.Move.{Legal}
+use Rattle.moves.specs.Replay.{Replays}
+use Rattle.phase.proofs.Laws.{new-weights-odd-set, new-weights-same-phases, odd-set-has-signature}
+use Rattle.phase.proofs.Sums.{C}
+use Rattle.phase.specs.NewWeights.{newWeights}
+use Rattle.phase.specs.Signature.{SameSignature}
+use Rattle.trimmer.specs.Trimmed.{Trimmed, oddSetOf, weightsOf}
+use Rattle.trimmer.specs.declared.Counts.{Counts}
+
+-- the odd set of sound weights is sound
+pub odd-set-sound : (size n : ℕ) (w : List ℕ) → SoundWeights size n w → SoundMarks size n (oddSet w)
+odd-set-sound size n w s =
+    record {
+      long = length-odd w ∙ s .long;
+      bits = λ p. rw (odd-mark w p) (omega arith);
+      none = odd-mark w 0 ∙ rw (s .none);
+      high = λ p h. odd-mark w p ∙ rw (s .high p h);
+    }
+
+module _ (n : ℕ) (fit : n ≤ maxWires) (C : List Gate) (fC : AllWellFormed n C) (log : List ℕ) (k : ℕ) (marks : List ℕ)
+    (replayed : Replays maxMembers n (oddSetOf n C) (logged moveBytes log k) marks) where
+  w : List ℕ
+  w = weightsOf n C
+
+  first : SoundMarks weightBytes n (oddSetOf n C)
+  first = odd-set-sound weightBytes n (weightsOf n C) (read-sound maxWires n fit C fC .weights)
+
+  pub marks-sound : SoundMarks weightBytes n marks
+  marks-sound = replays-sound weightBytes n maxMembers (limits-suffice n fit .0) (oddSetOf n C) (logged moveBytes log k) marks first replayed
+
+  -- moves and members left are no more than the members at first
+  pub moves-afford : k + members marks ≤ members (oddSetOf n C)
+  moves-afford = omega (arith, replays-shrinks weightBytes n maxMembers (limits-suffice n fit .0) (oddSetOf n C) (logged moveBytes log k) marks first replayed, logged-length moveBytes k log)
+
+  same : SameSignature n marks (weightsOf n C)
+  same = signature-trans n marks (oddSetOf n C) (weightsOf n C) (replays-signature weightBytes n maxMembers (limits-suffice n fit .0) (oddSetOf n C) (logged moveBytes log k) marks first replayed) (odd-set-has-signature n (weightsOf n C))
+
+  module _ (none : (z : ℕ) (Y : List ℕ) → Legal maxMembers n marks z Y → ⊥) (D : List Gate) (fD : AllWellFormed n D)
+      (wD : weightsOf n D ≡ newWeights weightBytes n (weightsOf n C) marks) (rD : read maxWires n D .rows ≡ read maxWires n C .rows)
+      (tD : tGates D ≡ members (oddSetOf n D)) where
+    odd-D : oddSetOf n D ≡ marks
+    odd-D = ap oddSet wD ∙ new-weights-odd-set weightBytes n (limits-suffice n fit .0) (weightsOf n C) marks marks-sound same
+
+    phases : (x : ℕ) → x < 2 ^ n → phaseAt n (weightsOf n D) x ≡ phaseAt n (weightsOf n C) x
+    phases x h = ap (λ (v : List ℕ). phaseAt n v x) wD ∙ new-weights-same-phases weightBytes n (limits-suffice n fit .0) (weightsOf n C) marks marks-sound same x h
+
+    acts : (x : ℕ) → x < 2 ^ n → run D x ≡ run C x
+    acts x h =
+        read-runs maxWires n fit D fD x h
+        ∙ ap₂ (λ (b φ : ℕ). record { bits = b; phase = φ }) (ap (λ (rows : List ℕ). endState n rows x) rD) (phases x h)
+        ∙ sym (read-runs maxWires n fit C fC x h)
+
+    t-D : tGates D ≡ members marks
+    t-D = tD ∙ ap members odd-D
+
+    pub whole : (counts : Counts) → counts .tin ≡ tGates C → counts .odd ≡ members (oddSetOf n C) → counts .tout ≡ members marks → counts .moves ≡ k → counts .gates ≡ length D
+        → Trimmed n C D log counts
+    whole counts tin odd tout moves gates =
+        record {
+          formed = fD;
+          acts = acts;
+          t-out = tout ∙ sym t-D;
+          one-each = tD;
+          no-more = omega (arith, t-D, moves-afford, odd-set-at-most-t maxWires n fit C fC);
+          bound = omega (arith, t-D, none-legal-bound weightBytes n maxMembers (limits-suffice n fit .0) marks marks-sound (limits-suffice n fit .1) none);
+          replayed = rw (moves, odd-D) replayed;
+          weights = rw odd-D wD;
+          finished = rw odd-D none;
+          moves-logged = logged-length moveBytes (counts .moves) log;
+          t-in = tin;
+          odd-size = odd;
+          gates-written = gates;
+          afford = omega (arith, t-D, moves, moves-afford);
+        }

@@ -1,0 +1,64 @@
+-- The marks are summed.
+use mathlib.Core.Path.{refl, _≡_}
+use Prim.Native.Nat.{_*_, _-_, _≤_}
+use native.Mathlib.Omega.{arith}
+use lib.ListN.{getD}
+use borrow.Author.Needs.{needs}
+use denote.Ref.{now}
+use Rattle.circuit.specs.Limits.{weightBytes}
+use Rattle.gf2.specs.Sum.{sum}
+use Rattle.phase.proofs.Lists.{wide}
+use Rattle.trimmer.proofs.Counted.{members-end, members-next}
+use Rattle.trimmer.proofs.counting.members_of.Statement.{statement}
+use Rattle.trimmer.proofs.counting.members_of.Tie as tie
+
+abbrev Inv-loop : tie.InvT-loop
+Inv-loop marks count₀ p₀ count p = (p ≤ weightBytes) × (count ≤ 256 * p) × (count ≡ sum p (λ p. getD marks p 0))
+
+abbrev μ-loop : tie.MeasureT-loop
+μ-loop marks count₀ p₀ count p = weightBytes - p
+
+loop-holds : tie.Need-loop-holds Inv-loop μ-loop
+unfolding sum
+loop-holds c = (search needs, search needs, refl)
+
+element-copy-out-wide : tie.Need-element-copy-out-wide Inv-loop μ-loop
+element-copy-out-wide c = search needs
+
+wide-requires : tie.Need-wide-requires Inv-loop μ-loop
+wide-requires c κs = search needs
+
+add-count : tie.Need-add-count Inv-loop μ-loop
+add-count c = omega (arith, c .wide .ensures .0, c .wide .ensures .1)
+
+add-p : tie.Need-add-p Inv-loop μ-loop
+add-p c = search needs
+
+loop-less : tie.Need-loop-less Inv-loop μ-loop
+loop-less c = search needs
+
+loop-again : tie.Need-loop-again Inv-loop μ-loop
+loop-again c =
+    let at = c .before .before .before in
+    let m = now (at .before .args .marks) in
+    (search needs, omega (arith, c .wide .ensures .0, c .wide .ensures .1), members-next m (at .loop .p) (at .loop .count) (c .wide .result) (at .loop .inv .2) (c .wide .ensures .0))
+
+returns : tie.Need-returns Inv-loop μ-loop
+returns c =
+    let at = c .before in
+    members-end (now (at .before .args .marks)) (at .loop .p) (at .loop .count) (omega (arith, at .before .pre)) (at .loop .inv .2)
+
+pub members-of-spec : {M : Type 1} → statement M
+members-of-spec =
+    tie.close
+    (tie.spec
+    Inv-loop
+    μ-loop
+    loop-holds
+    element-copy-out-wide
+    wide-requires
+    add-count
+    add-p
+    loop-less
+    loop-again
+    returns)

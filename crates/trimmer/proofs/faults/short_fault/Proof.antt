@@ -1,0 +1,14 @@
+-- Fault 8, by the one test.
+use native.Mathlib.Omega.{arith}
+use borrow.Author.Tests.{le-leb, lt-leb}
+use Rattle.trimmer.proofs.faults.short_fault.Statement.{statement}
+use Rattle.trimmer.proofs.faults.short_fault.Tie as tie
+
+returns : tie.Need-returns
+returns c = simp (le-leb (c .before .args .wanted) (c .before .args .bytes) (omega arith))
+
+returns-2 : tie.Need-returns-2
+returns-2 c = simp (lt-leb (c .before .args .wanted) (c .before .args .bytes) (omega arith))
+
+pub short-fault-spec : {M : Type 1} → statement M
+short-fault-spec = tie.close (tie.spec returns returns-2)

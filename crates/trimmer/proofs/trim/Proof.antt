@@ -1,0 +1,68 @@
+-- Each way out of `trim` by its law.
+use native.Mathlib.Omega.{arith}
+use borrow.Author.Needs.{needs}
+use denote.Ref.{now}
+use Rattle.moves.proofs.Finding.{found}
+use Rattle.trimmer.proofs.TrimWays.{may-trim, trim-done, trim-gate-refused, trim-refused}
+use Rattle.trimmer.proofs.trim.Statement.{statement}
+use Rattle.trimmer.proofs.trim.Tie as tie
+
+trim-fault-requires : tie.Need-trim-fault-requires
+trim-fault-requires c κs = search needs
+
+returns : tie.Need-returns
+returns c =
+    let a = c .before .before .before .before .before .args in
+    let f = c .before .trim-fault in
+    trim-refused (a .n) (now (a .gates)) (now (a .out)) (now (a .log)) (f .result) (f .ensures) (omega arith)
+
+first-fault-requires : tie.Need-first-fault-requires
+first-fault-requires c κs = search needs
+
+enum-known-found : tie.Need-enum-known-found
+enum-known-found c = search needs
+
+returns-2 : tie.Need-returns-2
+returns-2 c =
+    let f = c .before .before .before .before .before in
+    let a = f .before .before .before .before .args in
+    let k = c .before .before .before .first-fault in
+    trim-gate-refused (a .n) (now (a .gates)) (now (a .out)) (now (a .log)) (f .trim-fault .result) (f .trim-fault .ensures) (omega (arith, c .before .before .before .before .if1 .left)) (k .result) (k .ensures) (c .before .found .given .0 .0) (c .before .found .given .0 .1 .0) (c .before .found .given .1)
+
+enum-told : tie.Need-enum-told
+enum-told c = search needs
+
+trim-accepted-requires : tie.Need-trim-accepted-requires
+trim-accepted-requires c κs =
+    let f = c .before .before .before .before .before .before in
+    let a = f .before .before .before .before .args in
+    let k = c .before .before .before .before .first-fault in
+    may-trim (a .n) (now (a .gates)) (now (a .out)) (now (a .log)) (f .trim-fault .result) (f .trim-fault .ensures) (omega (arith, c .before .before .before .before .before .if1 .left)) (k .result) (k .ensures) (c .before .before .enum-told .given .1)
+
+same-length : tie.Need-same-length
+same-length c = search needs
+
+same-length-2 : tie.Need-same-length-2
+same-length-2 c = search needs
+
+returns-3 : tie.Need-returns-3
+returns-3 c =
+    let f = c .before .before .before .before .before .before .before .before .before .before .before in
+    let a = f .before .before .before .before .args in
+    let k = c .before .before .before .before .before .before .before .before .before .first-fault in
+    trim-done (a .n) (now (a .gates)) (now (a .out)) (now (a .log)) (f .trim-fault .result) (f .trim-fault .ensures) (omega (arith, c .before .before .before .before .before .before .before .before .before .before .if1 .left)) (k .result) (k .ensures) (c .before .before .before .before .before .before .before .enum-told .given .1) _ _ (c .before .before .before .before .trim-accepted .result) (c .before .before .before .before .trim-accepted .ensures)
+
+pub trim-spec : {M : Type 1} → statement M
+trim-spec =
+    tie.close
+    (tie.spec
+    trim-fault-requires
+    returns
+    first-fault-requires
+    enum-known-found
+    returns-2
+    enum-told
+    trim-accepted-requires
+    same-length
+    same-length-2
+    returns-3)

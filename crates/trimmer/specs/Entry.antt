@@ -1,0 +1,55 @@
+-- The entry `trim`: its reply, and what it leaves in the lent gates and the lent log, for sound and faulty arguments alike.
+use mathlib.Core.List.{List}
+use mathlib.Core.Path.{_≡_}
+use Prim.Native.Nat.{_*_, ℕ}
+use lib.Dec.{leb}
+use lib.ListN.{drop, length, take}
+use Rattle.circuit.specs.Faults.{firstFault, lentOutput, listFault, orElse, refuse, wiresFault}
+use Rattle.circuit.specs.Gate.{Gate, gatesOf}
+use Rattle.circuit.specs.Limits.{gateBytes, logBytes, moveBytes, writeBytes}
+use Rattle.circuit.specs.Read.{either}
+use Rattle.moves.proofs.Products.{place}
+use Rattle.phase.specs.NewWeights.{rest}
+use Rattle.trimmer.specs.Trimmed.{Trimmed}
+use Rattle.trimmer.specs.declared.Counts.{Counts}
+use Rattle.trimmer.specs.declared.TrimReply.{TrimReply}
+use Rattle.trimmer.specs.declared.TrimReply.the-variants.{Done, Refused}
+use Rattle.circuit.specs.declared.Reply.{Reply}
+use Rattle.circuit.specs.declared.Reply.the-variants as reply
+
+-- 8: a lent output with less room than it must have
+abbrev pub shortFault : ℕ → ℕ → ℕ
+shortFault bytes wanted = either (leb wanted bytes) 0 lentOutput
+
+-- 1, 2 and 8, by the lengths of the list, the gates lent and the log lent
+unfoldable pub trimFault : ℕ → ℕ → ℕ → ℕ → ℕ
+trimFault n bytes out log = orElse (wiresFault n) (orElse (listFault bytes) (orElse (shortFault out writeBytes) (shortFault log logBytes)))
+
+-- the first fault, from what goes in alone: 1, 2, 8, then 3, 4, 5 by gate; nothing else is refused
+abbrev pub verdict : ℕ → List ℕ → ℕ → ℕ → Reply
+verdict n bytes out log = refuse (trimFault n (length bytes) out log) 0 (firstFault n 0 (gatesOf bytes))
+
+-- the gates of D: the first of the bytes that were lent for them
+abbrev pub writtenOf : List ℕ → ℕ → List Gate
+writtenOf out count = gatesOf (take (gateBytes * count) out)
+
+-- a lent buffer after a call: as long as it was, and from place k on as it was
+pub record KeptFrom (k : ℕ) (was left : List ℕ) : Type 0 where
+  pub long : length left ≡ length was
+  pub rest : drop k left ≡ drop k was
+
+-- an accepted C is trimmed
+pub record Done-with (n : ℕ) (bytes out log out′ log′ : List ℕ) (counts : Counts) : Type 0 where
+  pub trimmed : Trimmed n (gatesOf bytes) (writtenOf out′ (counts .gates)) log′ counts
+  -- bytes after the last gate, and after the last move, stay untouched
+  pub gates-kept : KeptFrom (gateBytes * counts .gates) out out′
+  pub log-kept : KeptFrom (moveBytes * counts .moves) log log′
+
+-- what is left and replied after a verdict
+abbrev pub Outcome : Reply → ℕ → List ℕ → List ℕ → List ℕ → List ℕ → List ℕ → TrimReply → Type 0
+Outcome reply.Done n bytes out log out′ log′ r = (counts : Counts) × (r ≡ Done counts) × Done-with n bytes out log out′ log′ counts
+Outcome (reply.Refused number place) n bytes out log out′ log′ r = (r ≡ Refused number place) × (out′ ≡ out) × (log′ ≡ log)
+
+-- `trim`, called with the bytes of C, these gates and this log, replies r and leaves out′ and log′
+pub record TrimList (n : ℕ) (bytes out log out′ log′ : List ℕ) (r : TrimReply) : Type 0 where
+  pub outcome : Outcome (verdict n bytes (length out) (length log)) n bytes out log out′ log′ r

@@ -1,0 +1,51 @@
+// The counts of a trim: T and T dagger gates of a list, and members of an odd set.
+ghost use mathlib.Core.Path.{_≡_};
+ghost use Prim.Native.Nat.{_<_, _≤_};
+ghost use lib.ListN.{length};
+ghost use Rattle.circuit.specs.Gate.{isT, tGates, gatesOf};
+ghost use Rattle.circuit.specs.Limits.{maxListBytes, weightBytes};
+ghost use Rattle.circuit.specs.OddSet.{members};
+use circuit::limits::GATE_BYTES;
+use circuit::limits::WEIGHT_BYTES;
+
+// How many T and T dagger gates a list holds.
+pub fn t_gates(gates: &[u8]) -> usize
+    ensures { λ r. ⌜ r ≡ tGates (gatesOf (now (gates .entry))) ⌝ }
+{
+    let m = gates.len() / GATE_BYTES;
+    let mut count: usize = 0;
+    let mut i: usize = 0;
+    while i < m {
+        count += is_t(gates[GATE_BYTES * i]);
+        i += 1;
+    }
+    count
+}
+
+fn is_t(kind: u8) -> usize
+    ensures { λ r. ⌜ (r ≡ isT kind) × (r < 2) ⌝ }
+{
+    match kind {
+        2 => 1,
+        6 => 1,
+        _ => 0,
+    }
+}
+
+// How many parities are marked.
+pub fn members_of(marks: &[u8; WEIGHT_BYTES]) -> usize
+    requires { ⌜ length (now marks) ≡ weightBytes ⌝ }
+    ensures { λ r. ⌜ r ≡ members (now (marks .entry)) ⌝ }
+{
+    let mut count: usize = 0;
+    for p in 0..WEIGHT_BYTES {
+        count += wide(marks[p]);
+    }
+    count
+}
+
+fn wide(x: u8) -> usize
+    ensures { λ r. ⌜ (r ≡ x) × (x < 256) ⌝ }
+{
+    x as usize
+}

@@ -1,0 +1,88 @@
+// The trim: reads a circuit C, makes legal moves until none is left, and writes the circuit D and the log of the moves (document 01).
+// Public entry: `trim`. Its promise is the record TrimList of specs/Entry; for an accepted circuit it is demand 3 whole, the record
+// Trimmed of specs/Trimmed.
+
+ghost use mathlib.Core.Path.{_≡_};
+ghost use Prim.Native.Nat.{_≤_};
+ghost use lib.ListN.{length};
+ghost use Rattle.circuit.specs.Faults.{Accepted};
+ghost use Rattle.circuit.specs.Limits.{logBytes, writeBytes};
+ghost use Rattle.trimmer.specs.Entry.{Done-with, TrimList};
+
+pub mod counting;
+pub mod faults;
+pub mod logging;
+pub mod moving;
+pub mod tables;
+
+use circuit::Reply;
+use circuit::faults::first_fault;
+use circuit::reading::read_gates;
+use counting::members_of;
+use counting::t_gates;
+use faults::trim_fault;
+use moving::make_moves;
+use tables::odd_marks;
+use tables::weights_for;
+use tables::write_list;
+
+// The counts of a trim: T and T dagger gates of C, the size of its odd set, T and T dagger gates of D, the moves in the log, the gates
+// of D.
+pub struct Counts {
+    pub tin: usize,
+    pub odd: usize,
+    pub tout: usize,
+    pub moves: usize,
+    pub gates: usize,
+}
+
+pub enum TrimReply {
+    Done(Counts),
+    Refused { number: u8, place: usize },
+}
+
+// Trims a circuit: writes D into `out` and the moves into `log`. A refusal leaves both as they were.
+pub fn trim(n: usize, gates: &[u8], out: &mut [u8], log: &mut [u8]) -> TrimReply
+    ensures { λ r. ⌜ TrimList n (now (gates .entry)) (now (out .entry)) (now (log .entry)) (now (out .exit)) (now (log .exit)) r ⌝ }
+{
+    let fault = trim_fault(n, gates.len(), out.len(), log.len());
+    if fault != 0 {
+        return TrimReply::Refused {
+            number: fault,
+            place: 0,
+        };
+    }
+    let found = first_fault(n, gates);
+    if let Reply::Refused { number, place } = found {
+        return TrimReply::Refused {
+            number: number,
+            place: place,
+        };
+    }
+    TrimReply::Done(trim_accepted(n, gates, out, log))
+}
+
+// The trim of an accepted circuit.
+fn trim_accepted(n: usize, gates: &[u8], out: &mut [u8], log: &mut [u8]) -> Counts
+    requires { ⌜ Accepted n (now gates) × (writeBytes ≤ length (now out)) × (logBytes ≤ length (now log)) ⌝ }
+    ensures { λ r. ⌜ Done-with n (now (gates .entry)) (now (out .entry)) (now (log .entry)) (now (out .exit)) (now (log .exit)) r ⌝ }
+{
+    let t = read_gates(n, gates);
+    let w = t.weights;
+    let rows = t.rows;
+    let first = odd_marks(n, w);
+    let m = make_moves(n, first, log);
+    let last = m.marks;
+    let new = weights_for(n, w, last);
+    let count = write_list(n, new, rows, out);
+    let tin = t_gates(gates);
+    let odd = members_of(&first);
+    let tout = members_of(&last);
+    Counts {
+        tin: tin,
+        odd: odd,
+        tout: tout,
+        moves: m.count,
+        gates: count,
+    }
+}
