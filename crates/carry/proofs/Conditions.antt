@@ -2,17 +2,16 @@
 use mathlib.Core.Bool.{Bool}
 use mathlib.Core.List.{List}
 use mathlib.Core.Logic.{_≢_}
-use mathlib.Core.Path.{_∙_, _≡_, ap, refl, sym}
-use Prim.Native.Nat.{_+_, _≤_, ℕ}
+use mathlib.Core.Path.{_∙_, _≡_, sym}
+use Prim.Native.Nat.{_≤_, ℕ}
 use native.Mathlib.Omega.{arith}
-use lib.Bits.{bitXor}
 use lib.ListN.{drop, getD, length, length-drop}
 use lib.Seq.{length-take-le}
 use Rattle.gf2.proofs.Pairing.{xor-equal}
 use Rattle.moves.proofs.Logs.{bytes-checked}
 use Rattle.moves.specs.Log.{LegalBytes, setOf, zOf}
 use Rattle.moves.specs.Move.{Balanced, Legal, Separates}
-use Rattle.moves.specs.Sets.{Ascending, In}
+use Rattle.moves.specs.Sets.{Ascending}
 use Rattle.carry.proofs.Deciding.{decides-as}
 use Rattle.carry.specs.Decides.{AllMembers, Decides, MoveForm}
 

@@ -1,8 +1,8 @@
 -- The answers of tests, and what a loop that looks at every number of a list has decided when it ends.
 use mathlib.Core.Bool.{Bool, false, not, true}
 use mathlib.Core.List.{List}
-use mathlib.Core.Path.{_∙_, _≡_, refl, sym}
-use Prim.Native.Nat.{_+_, _<_, _≤_, suc, ℕ}
+use mathlib.Core.Path.{_≡_}
+use Prim.Native.Nat.{_+_, _<_, _≤_, ℕ}
 use native.Mathlib.Numerals.{add-one}
 use native.Mathlib.Omega.{arith}
 use lib.Bits.{bitXor}

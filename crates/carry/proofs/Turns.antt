@@ -1,7 +1,7 @@
 -- The steps of carrying out a move, as code takes them.
 use mathlib.Core.List.{List}
 use mathlib.Core.Logic.{_≢_}
-use mathlib.Core.Path.{_∙_, _≡_, ap, sym}
+use mathlib.Core.Path.{_∙_, _≡_, ap}
 use Prim.Native.Nat.{_%_, ℕ}
 use native.Mathlib.Omega.{arith}
 use lib.ListN.{length, set}

@@ -1,8 +1,8 @@
 // Whether forty bytes are a legal move for these marks (document 01, "Legal moves"): one function for each condition, one loop in each.
 ghost use mathlib.Core.Logic.{_≢_};
 ghost use mathlib.Core.Path.{_≡_};
-ghost use Prim.Native.Nat.{_+_, _≤_, ℕ};
-ghost use lib.ListN.{getD, length};
+ghost use Prim.Native.Nat.{_≤_};
+ghost use lib.ListN.{length};
 ghost use Rattle.circuit.specs.Limits.{maxMembers, maxWires, weightBytes};
 ghost use Rattle.moves.specs.Log.{LegalBytes, setOf};
 ghost use Rattle.moves.specs.Move.{Balanced, Legal, Member, Separates};
@@ -17,7 +17,7 @@ use columns::lowest;
 // What stands before Y in the bytes of a move: z and the number in Y.
 const HEAD: usize = MOVE_BYTES - MAX_MEMBERS;
 
-// Legality on all wires; for marks of fewer it is the same.
+// Legality on all wires; for marks of fewer it is the same. Internal: the caller has found no fault in the marks.
 pub fn is_move(marks: &[u8], bytes: &[u8]) -> bool
     requires { ⌜ length (now marks) ≡ weightBytes ⌝ }
     ensures { λ r. ⌜ Decides r (LegalBytes maxMembers maxWires (now (marks .entry)) (now (bytes .entry))) ⌝ }
@@ -28,7 +28,7 @@ pub fn is_move(marks: &[u8], bytes: &[u8]) -> bool
     is_legal(marks, bytes[0], set_of(bytes))
 }
 
-// The set Y, as part of the bytes of a move.
+// The set Y, as part of the bytes of a move. Internal: the bytes have the form of one.
 pub fn set_of(bytes: &[u8]) -> &[u8]
     requires { ⌜ MoveForm maxMembers (now bytes) ⌝ }
     ensures { λ r. ⌜ now r ≡ setOf (now (bytes .entry)) ⌝ }

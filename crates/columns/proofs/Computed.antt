@@ -2,7 +2,7 @@
 use mathlib.Core.Bool.{Bool, false, true}
 use mathlib.Core.List.{List, [], _∷_}
 use mathlib.Core.Logic.{⊎-elim}
-use mathlib.Core.Path.{_∙_, _≡_, subst, sym}
+use mathlib.Core.Path.{_∙_, subst, sym}
 use Prim.Native.Nat.{_+_, _<_, suc, zero, ℕ}
 use native.Mathlib.Nat.{add-suc, add-zero, eq-or-lt-of-le, le-of-suc-le-suc, not-suc-le-zero, suc-add, zero-add}
 use lib.Dec.{T}

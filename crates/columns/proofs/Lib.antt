@@ -1,3 +1,4 @@
 pub mod Computed
 pub mod Entries
 pub mod Wires
+pub mod Laws

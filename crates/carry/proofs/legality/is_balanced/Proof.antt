@@ -7,9 +7,7 @@ use lib.ListN.{length}
 use borrow.Author.Needs.{needs}
 use denote.Ref.{now}
 use Rattle.circuit.specs.Limits.{maxWires}
-use Rattle.gf2.proofs.Leading.{lowest}
 use Rattle.gf2.specs.Over.{xorAll}
-use Rattle.gf2.specs.Sum.{sum}
 use Rattle.moves.specs.Kappa.{kappa}
 use Rattle.carry.proofs.Columns.{XorTo, balanced-by-xor, wire-lt, xor-end, xor-next}
 use Rattle.carry.proofs.legality.is_balanced.Statement.{statement}

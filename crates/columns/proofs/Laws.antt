@@ -1,0 +1,25 @@
+-- The laws of columns on one page: what the contracts of the crate's functions mean. The proofs are in the modules named.
+use mathlib.Core.Logic.{_≢_}
+use mathlib.Core.Path.{_≡_}
+use Prim.Native.Nat.{_<_, _^_, _≤_, ℕ}
+use lib.Count.{trailingZeros}
+use Rattle.circuit.specs.Limits.{maxWires}
+use Rattle.gf2.proofs.Leading.{lowest}
+use Rattle.gf2.specs.Bit.{bit}
+use Rattle.moves.specs.Kappa.{kappa}
+use Rattle.moves.specs.Product.{product}
+use Rattle.columns.proofs.Entries.{entry-is}
+use Rattle.columns.proofs.Wires.{kappa-wires}
+use Rattle.columns.specs.Table.{ProductEntry}
+
+-- `product`: 36 bits with this rule are the product entry
+pub entry-is-product : (p r : ℕ) → ProductEntry p r → r ≡ product maxWires p
+entry-is-product = entry-is
+
+-- `column`: that of n wires is the same
+pub column-on-fewer-wires : (n z t y : ℕ) → n ≤ maxWires → z < 2 ^ n → y < 2 ^ n → kappa maxWires z t y ≡ kappa n z t y
+column-on-fewer-wires n = kappa-wires n maxWires
+
+-- `lowest`: a wire of z
+pub lowest-is-wire : (n z : ℕ) → n ≤ maxWires → z ≢ 0 → z < 2 ^ n → (trailingZeros maxWires z < n) × (bit z (trailingZeros maxWires z) ≡ 1)
+lowest-is-wire = lowest maxWires
