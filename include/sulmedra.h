@@ -30,6 +30,30 @@ typedef struct {
 sulmedra_reply sulmedra_read(size_t n, const uint8_t *gates, size_t gates_len, uint8_t *weights, size_t weights_len,
                              uint8_t *rows, size_t rows_len);
 
+/* The odd set of weights on n wires: 1 where a weight is odd, else 0.
+ *   weights  256 bytes, each 0 to 7, 0 at parity 0 and from 2^n up
+ *   marks    256 bytes, written
+ * Checks, in order: 1 wire count, 8 lent output, 6 weights. */
+sulmedra_reply sulmedra_odd_set(size_t n, const uint8_t *weights, size_t weights_len, uint8_t *marks, size_t marks_len);
+
+/* The coefficients of weights on n wires: l modulo 8, q modulo 4, c modulo 2.
+ *   weights  256 bytes, as above
+ *   l        8 bytes, written: l(i) at i
+ *   q        64 bytes, written: q(i, j) at 8 j + i, for i < j
+ *   c        512 bytes, written: c(i, j, k) at 64 k + 8 j + i, for i < j < k
+ * Every other byte of the three is written as 0. Checks, in order: 1, 8, 6. */
+sulmedra_reply sulmedra_coefficients(size_t n, const uint8_t *weights, size_t weights_len, uint8_t *l, size_t l_len, uint8_t *q,
+                                     size_t q_len, uint8_t *c, size_t c_len);
+
+/* The new weights for the weights of a circuit and an odd set: each member gets 1, and the even rest is added so that the phases are
+ * those of the weights, where the odd set has their signature.
+ *   weights  256 bytes, as above
+ *   marks    256 bytes, each 0 or 1, 0 at parity 0 and from 2^n up
+ *   out      256 bytes, written
+ * Checks, in order: 1, 8, 6 (weights, then marks). */
+sulmedra_reply sulmedra_new_weights(size_t n, const uint8_t *weights, size_t weights_len, const uint8_t *marks, size_t marks_len,
+                                    uint8_t *out, size_t out_len);
+
 #ifdef __cplusplus
 }
 #endif

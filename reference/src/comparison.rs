@@ -1,5 +1,16 @@
 //! One call of an entry, held against the reference: reply, every lent byte, and the guards around them.
 
+#[cfg(feature = "moves")]
+pub mod moves;
+#[cfg(feature = "text")]
+pub mod text;
+#[cfg(feature = "trim")]
+pub mod trimming;
+#[cfg(feature = "weights")]
+pub mod weights;
+#[cfg(feature = "writing")]
+pub mod writing;
+
 use crate::demands;
 use crate::entries::{self, Reply};
 use crate::faults;

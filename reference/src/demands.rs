@@ -3,7 +3,7 @@
 use crate::gates::MOST_WIRES;
 use crate::odd_set;
 use crate::parity;
-use crate::reading::{Reading, ROWS_BYTES, WEIGHTS_BYTES};
+use crate::reading::{Reading, Rows, Weights};
 use crate::running::{run, State};
 
 /// Holds a reading of an accepted list against all that is demanded of it. Answers the first thing that is amiss.
@@ -36,12 +36,12 @@ pub fn check_runs(n: usize, list: &[u8], reading: &Reading) -> Result<(), String
 }
 
 /// End bit i is row i of x.
-pub fn told_state(rows: &[u8; ROWS_BYTES], x: u16) -> u16 {
+pub fn told_state(rows: &Rows, x: u16) -> u16 {
     (0..).zip(rows).map(|(wire, row)| parity::value(u16::from(*row), x) << wire).sum()
 }
 
 /// The phase is the sum of w[p] times p(x), modulo 8.
-pub fn told_phase(weights: &[u8; WEIGHTS_BYTES], x: u16) -> u8 {
+pub fn told_phase(weights: &Weights, x: u16) -> u8 {
     let mut sum = 0u32;
     for (p, weight) in (0u16..).zip(weights).filter(|(_, weight)| **weight != 0) {
         sum += u32::from(*weight) * u32::from(parity::value(p, x));
@@ -50,12 +50,12 @@ pub fn told_phase(weights: &[u8; WEIGHTS_BYTES], x: u16) -> u8 {
 }
 
 /// Each weight is 0 to 7; w[0] and every w[p] from 2^n up are 0.
-pub fn weights_are_sound(n: usize, weights: &[u8; WEIGHTS_BYTES]) -> bool {
+pub fn weights_are_sound(n: usize, weights: &Weights) -> bool {
     weights[0] == 0 && weights.iter().all(|w| *w < 8) && weights[1 << n..].iter().all(|w| *w == 0)
 }
 
 /// No row has a bit beyond n, rows from n up are 0, and the first n are invertible.
-pub fn rows_are_sound(n: usize, rows: &[u8; ROWS_BYTES]) -> bool {
+pub fn rows_are_sound(n: usize, rows: &Rows) -> bool {
     let within = rows.iter().all(|row| u16::from(*row) < 1 << n) && rows[n..].iter().all(|row| *row == 0);
     within && are_invertible(&rows[..n])
 }

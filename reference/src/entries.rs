@@ -1,5 +1,16 @@
 //! The proved library's C functions, each behind a safe function that lends slices.
 
+#[cfg(feature = "moves")]
+pub mod moves;
+#[cfg(feature = "text")]
+pub mod text;
+#[cfg(feature = "trim")]
+pub mod trimming;
+#[cfg(feature = "weights")]
+pub mod weights;
+#[cfg(feature = "writing")]
+pub mod writing;
+
 /// What every entry answers: number 0 when done, else document 01's number of the fault and its place.
 #[repr(C)]
 #[derive(Clone, Copy, Debug, PartialEq, Eq)]

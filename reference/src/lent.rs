@@ -39,6 +39,12 @@ impl Lent {
         self.bytes == self.before
     }
 
+    /// The lent part from `start` on, and the bytes around the lent part, are as they were before the call.
+    pub fn is_untouched_from(&self, start: usize) -> bool {
+        let rest = GUARD_BYTES + start;
+        self.bytes[..GUARD_BYTES] == self.before[..GUARD_BYTES] && self.bytes[rest..] == self.before[rest..]
+    }
+
     /// The bytes around the lent part are as they were before the call.
     pub fn guards_hold(&self) -> bool {
         let end = GUARD_BYTES + self.length;

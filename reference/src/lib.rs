@@ -7,23 +7,39 @@
 //! - [`gates`], [`running`]: what a gate is and what it does to a basis state.
 //! - [`parity`], [`reading`]: the parity a wire holds, found by search; weights and rows.
 //! - [`odd_set`]: the odd set and the T count.
+//! - [`coefficients`], [`new_weights`]: signed sums over all parities; the even rest, found by trying its values.
+//! - [`moves`], [`existence`]: legality word for word; whether a legal move exists, by solving its conditions.
+//! - [`writing`], [`trimming`]: what must hold of a written list, and demand 3 of a trim.
+//! - [`text`]: the text form, split at its newlines.
 //! - [`faults`]: the table of faults and the order of checks.
 //! - [`demands`]: what must hold of any answer, whatever made it.
 //! - [`entries`]: the proved library's C functions.
 //! - [`lent`], [`comparison`]: lent buffers with guards around them; one call, held against the reference.
-//! - [`random`]: the generator and the random circuits.
+//! - [`random`]: the generator and the random circuits, weights, odd sets and rows.
+//! - [`fast`], [`published`]: for the benchmark, a trimmer built for speed and the published search taken literally. The
+//!   first does share an idea with the proved code, so comparisons with the library take inputs from it at most.
 //!
 //! The comparisons stand in `tests/`. With the library made by `rt staticlib capi` in the repository's root, run
-//! `cargo test --release --offline` here.
+//! `cargo test --release --offline` here. Each group of C functions is compared once its feature is on: `weights`,
+//! `moves`, `writing`, `trim`, `text`. Tests named `own_` call no C function: there the reference is held against itself.
 
+pub mod coefficients;
 pub mod comparison;
 pub mod demands;
 pub mod entries;
+pub mod existence;
+pub mod fast;
 pub mod faults;
 pub mod gates;
 pub mod lent;
+pub mod moves;
+pub mod new_weights;
 pub mod odd_set;
 pub mod parity;
+pub mod published;
 pub mod random;
 pub mod reading;
 pub mod running;
+pub mod text;
+pub mod trimming;
+pub mod writing;

@@ -1,6 +1,11 @@
-//! A small generator of its own, with a fixed seed for each test, and random circuits.
+//! A small generator of its own, with a fixed seed for each test, and random circuits, weights, odd sets and rows.
 
+use crate::demands::are_invertible;
+use crate::existence::separating;
 use crate::gates::{CNOT, GATE_BYTES, MOST_WIRES, PHASE_KINDS, S, S_DAGGER, T, T_DAGGER, Z};
+use crate::moves::{members, Move};
+use crate::odd_set::Marks;
+use crate::reading::{Rows, Weights, ROWS_BYTES, WEIGHTS_BYTES};
 
 /// The splitmix64 generator.
 pub struct Random {
@@ -95,4 +100,69 @@ pub fn all_gates(n: usize) -> Vec<[u8; GATE_BYTES]> {
     let cnots = wires.clone().flat_map(|a| wires.clone().map(move |b| [CNOT, a, b])).filter(|[_, a, b]| a != b);
     let phases = wires.clone().flat_map(|a| PHASE_KINDS.map(|kind| [kind, a, 0]));
     cnots.chain(phases).collect()
+}
+
+/// Random sound weights on n wires. The values come from a palette that is drawn first, so that even tables, odd tables
+/// and nearly empty ones all come up.
+pub fn weights(random: &mut Random, n: usize) -> Weights {
+    let palettes: [&[u8]; 6] = [&[0, 1, 2, 3, 4, 5, 6, 7], &[0, 2, 4, 6], &[1, 3, 5, 7], &[0, 1], &[3, 5], &[7]];
+    let palette = random.one_of(&palettes);
+    let share = random.one_of(&[1, 4, 8, 16, 16]);
+    let mut weights = [0; WEIGHTS_BYTES];
+    for weight in &mut weights[1..1 << n] {
+        let value = random.one_of(palette);
+        *weight = if random.sixteenths(share) { value } else { 0 };
+    }
+    weights
+}
+
+/// A random odd set on n wires of exactly `size` members.
+pub fn marks(random: &mut Random, n: usize, size: usize) -> Marks {
+    let mut left: Vec<usize> = (1..1 << n).collect();
+    let mut marks = [0; WEIGHTS_BYTES];
+    for _ in 0..size {
+        let place = random.below(left.len());
+        marks[left.swap_remove(place)] = 1;
+    }
+    marks
+}
+
+/// Random invertible rows on n wires.
+pub fn rows(random: &mut Random, n: usize) -> Rows {
+    loop {
+        let mut rows = [0; ROWS_BYTES];
+        for row in &mut rows[..n] {
+            *row = random.below(1 << n) as u8;
+        }
+        if are_invertible(&rows[..n]) {
+            return rows;
+        }
+    }
+}
+
+/// Even weights added at random to a weight table: the odd set and the signature stay.
+pub fn add_even_weights(random: &mut Random, n: usize, weights: &Weights) -> Weights {
+    let mut changed = *weights;
+    for weight in &mut changed[1..1 << n] {
+        *weight = (*weight + random.one_of(&[0, 0, 2, 4, 6])) % 8;
+    }
+    changed
+}
+
+/// A random legal move on this odd set: random pairs are asked, each on the pair and some of the other members only, so
+/// that the same set gives many moves. None if no try succeeds.
+pub fn legal_move(random: &mut Random, n: usize, marks: &Marks) -> Option<Move> {
+    let odd_set = members(marks);
+    (0..20).filter(|_| odd_set.len() > 1).find_map(|_| {
+        let (a, b) = (random.one_of(&odd_set), random.one_of(&odd_set));
+        let share = random.between(4, 16);
+        let mut some = *marks;
+        for y in odd_set.iter().filter(|y| **y != a && **y != b) {
+            some[usize::from(*y)] = u8::from(random.sixteenths(share));
+        }
+        if a == b {
+            return None;
+        }
+        separating(n, &some, a, b)
+    })
 }

@@ -7,10 +7,13 @@ use crate::running::{step, State};
 pub const WEIGHTS_BYTES: usize = 256;
 pub const ROWS_BYTES: usize = 8;
 
+pub type Weights = [u8; WEIGHTS_BYTES];
+pub type Rows = [u8; ROWS_BYTES];
+
 #[derive(Clone, Debug, PartialEq, Eq)]
 pub struct Reading {
-    pub weights: [u8; WEIGHTS_BYTES],
-    pub rows: [u8; ROWS_BYTES],
+    pub weights: Weights,
+    pub rows: Rows,
 }
 
 /// The weights and rows of an accepted list. All 2^n basis states run side by side; at each phase gate they tell which

@@ -2,6 +2,7 @@
 // A slice passes as a pointer and a length. A reply is two numbers: document 01's fault number, 0 for none, and its place.
 ghost use mathlib.Core.Path.{_≡_};
 ghost use Rattle.circuit.specs.Entry.{numberOf, placeOf, ReadList};
+ghost use Rattle.weights.specs.Entry.{OddSetOf, CoefficientsOf, NewWeightsOf};
 ghost use Rattle.capi.specs.InC.{InC};
 use circuit::Reply;
 
@@ -22,6 +23,36 @@ pub extern "C" fn sulmedra_read(
     ensures { λ r. ⌜ InC (ReadList n (now (gates .entry)) (now (weights .entry)) (now (rows .entry)) (now (weights .exit)) (now (rows .exit))) (r .number) (r .place) ⌝ }
 {
     in_c(circuit::read(n, gates, weights, rows))
+}
+
+// `weights::odd_set`.
+#[no_mangle]
+pub extern "C" fn sulmedra_odd_set(n: usize, weights: &[u8], marks: &mut [u8]) -> SulmedraReply
+    ensures { λ r. ⌜ InC (OddSetOf n (now (weights .entry)) (now (marks .entry)) (now (marks .exit))) (r .number) (r .place) ⌝ }
+{
+    in_c(weights::odd_set(n, weights, marks))
+}
+
+// `weights::coefficients`.
+#[no_mangle]
+pub extern "C" fn sulmedra_coefficients(
+    n: usize,
+    weights: &[u8],
+    l: &mut [u8],
+    q: &mut [u8],
+    c: &mut [u8],
+) -> SulmedraReply
+    ensures { λ r. ⌜ InC (CoefficientsOf n (now (weights .entry)) (now (l .entry)) (now (q .entry)) (now (c .entry)) (now (l .exit)) (now (q .exit)) (now (c .exit))) (r .number) (r .place) ⌝ }
+{
+    in_c(weights::coefficients(n, weights, l, q, c))
+}
+
+// `weights::new_weights`.
+#[no_mangle]
+pub extern "C" fn sulmedra_new_weights(n: usize, weights: &[u8], marks: &[u8], out: &mut [u8]) -> SulmedraReply
+    ensures { λ r. ⌜ InC (NewWeightsOf n (now (weights .entry)) (now (marks .entry)) (now (out .entry)) (now (out .exit))) (r .number) (r .place) ⌝ }
+{
+    in_c(weights::new_weights(n, weights, marks, out))
 }
 
 // A reply as two numbers.

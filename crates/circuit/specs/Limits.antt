@@ -1,5 +1,6 @@
 -- The numbers of document 01, each once. Every law takes the wire count n, and N for the most wires, as a parameter: only contracts cite these.
 use Prim.Native.Nat.{_*_, _+_, _^_, ℕ}
+use Prim.Native.Nat.{_*_, _+_, _-_, _/_, _^_, ℕ}
 
 -- a wire count is 1 to 8
 abbrev pub maxWires : ℕ
@@ -23,6 +24,25 @@ weightBytes = 2 ^ maxWires
 -- the rows: one for each wire
 abbrev pub rowBytes : ℕ
 rowBytes = maxWires
+
+-- a product entry: one bit for each pair of wires i ≤ j
+abbrev pub productBits : ℕ
+productBits = maxWires * (maxWires + 1) / 2
+
+-- the set Y of a move has at most 38 members
+abbrev pub maxMembers : ℕ
+maxMembers = 38
+
+-- a move takes forty bytes: z, the number in Y, and Y
+abbrev pub moveBytes : ℕ
+moveBytes = maxMembers + 2
+
+-- each move takes a member from the odd set, which never has parity 0
+abbrev pub maxMoves : ℕ
+maxMoves = weightBytes - 1
+
+abbrev pub logBytes : ℕ
+logBytes = moveBytes * maxMoves
 
 -- the coefficients of two wires, and of three: one byte for each two, and for each three
 abbrev pub pairBytes : ℕ

@@ -1,10 +1,8 @@
 -- Document 01, "Weights and rows" and "Faults": sound weights, marks and rows, for n wires. N is the number of rows kept, `size` that of the weights or marks.
 use mathlib.Core.List.{List}
-use mathlib.Core.Option.{none}
 use mathlib.Core.Path.{_≡_}
 use Prim.Native.Nat.{_<_, _^_, ℕ, _≤_}
 use lib.ListN.{getD, length}
-use lib.Pow.{high}
 use Rattle.gf2.specs.Selection.{Independent}
 use Rattle.circuit.specs.Read.{Reading}
 

@@ -16,6 +16,19 @@ pub const WEIGHT_BYTES: usize = 1 << MAX_WIRES;
 // One parity for each wire.
 pub const ROW_BYTES: usize = MAX_WIRES;
 
+// One bit for each pair of wires i <= j.
+pub const PRODUCT_BITS: usize = MAX_WIRES * (MAX_WIRES + 1) / 2;
+
+// The set Y of a move.
+pub const MAX_MEMBERS: usize = 38;
+
+// z, the number in Y, and Y.
+pub const MOVE_BYTES: usize = MAX_MEMBERS + 2;
+
+// Each move takes a member from the odd set, which never has parity 0.
+pub const MAX_MOVES: usize = WEIGHT_BYTES - 1;
+
+pub const LOG_BYTES: usize = MOVE_BYTES * MAX_MOVES;
 // One byte for each two wires, and for each three.
 pub const PAIR_BYTES: usize = MAX_WIRES * MAX_WIRES;
 

@@ -71,6 +71,11 @@ map-set f [] s x = refl
 map-set f (y ∷ ys) zero x = refl
 map-set f (y ∷ ys) (suc s) x = ap (λ (zs : List ℕ). f y ∷ zs) (map-set f ys s x)
 
+pub getD-map : (f : ℕ → ℕ) (ys : List ℕ) (i : ℕ) → i < length ys → getD (map f ys) i 0 ≡ f (getD ys i 0)
+getD-map f [] i l = absurd (omega arith)
+getD-map f (y ∷ ys) zero l = refl
+getD-map f (y ∷ ys) (suc i) l = getD-map f ys i (omega arith)
+
 -- a list of zeros
 pub getD-zeros : (k i : ℕ) → _≡_ {A = ℕ} (getD (replicate k 0) i 0) 0
 getD-zeros zero i = refl

@@ -7,6 +7,7 @@ pub mod Selection
 pub mod Digits
 pub mod Table
 pub mod Over
+pub mod Blocks
 pub mod SixBits
 pub mod Cubic
 pub mod Pairing

@@ -5,7 +5,7 @@ use Prim.Native.Nat.{_%_, _*_, _+_, _<_, _^_, suc, suc-le-suc, zero, zero-le, �
 use native.Mathlib.Nat.{add-mod}
 use native.Mathlib.Omega.{arith}
 use lib.Bits.{bitXor, xor-lt}
-use lib.ListN.{length}
+use lib.ListN.{getD, length}
 use lib.Pow.{pow-pos}
 use Rattle.gf2.proofs.Bit.{bit-eq, bit-ext, bit-of-zero, bit-xor}
 use Rattle.gf2.specs.Bit.{bit}
@@ -46,6 +46,12 @@ pub sumOver-ext : (f g : ℕ → ℕ) → ((y : ℕ) → f y ≡ g y) → (ys : 
 unfolding sumOver
 sumOver-ext f g h [] = refl
 sumOver-ext f g h (y ∷ ys) = omega (arith, h y, sumOver-ext f g h ys)
+
+-- no term
+pub sumOver-none : (f : ℕ → ℕ) (ys : List ℕ) → ((i : ℕ) → i < length ys → f (getD ys i 0) ≡ 0) → sumOver f ys ≡ 0
+unfolding sumOver
+sumOver-none f [] h = refl
+sumOver-none f (y ∷ ys) h = omega (arith, h 0 (suc-le-suc zero-le), sumOver-none f ys (λ i l. h (suc i) (suc-le-suc l)))
 
 pub sumOver-mod : (m : ℕ) (f g : ℕ → ℕ) → ((y : ℕ) → f y % m ≡ g y % m) → (ys : List ℕ) → sumOver f ys % m ≡ sumOver g ys % m
 unfolding sumOver

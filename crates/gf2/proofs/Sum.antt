@@ -131,3 +131,14 @@ delta-other zero zero h = absurd (h refl)
 delta-other zero (suc p) h = refl
 delta-other (suc a) zero h = refl
 delta-other (suc a) (suc p) h = delta-other a p (λ e. h (ap suc e))
+
+pub sum-const : (k c : ℕ) → sum k (λ i. c) ≡ k * c
+unfolding sum
+sum-const zero c = omega arith
+sum-const (suc k) c = omega (arith, sum-const k c)
+
+-- the first term apart
+pub sum-front : (k : ℕ) (f : ℕ → ℕ) → sum (suc k) f ≡ f 0 + sum k (λ i. f (suc i))
+unfolding sum
+sum-front zero f = omega arith
+sum-front (suc k) f = omega (arith, sum-front k f)

@@ -1,2 +1,2 @@
-pub mod Decide
+pub mod Testing
 pub mod Marked

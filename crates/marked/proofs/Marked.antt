@@ -4,13 +4,19 @@ use Rattle.circuit.specs.Faults.{firstFault, gateFault}
 use Rattle.circuit.specs.Gate.{isT, kindOf, tGates}
 use Rattle.circuit.specs.OddSet.{members, oddSet}
 use Rattle.circuit.specs.Read.{firstRows, noWeights, readFrom, readKind}
+use Rattle.gf2.specs.Bit.{bit}
+use Rattle.gf2.specs.Over.{sumOver, xorAll}
+use Rattle.gf2.specs.Selection.{combine}
 use Rattle.gf2.specs.Sum.{delta, sum}
-use Rattle.gf2.specs.Table.{tabulate}
-use Rattle.marked.proofs.Decide.{all-claimed, allHold, holds, isRefusal, same}
-use Rattle.marked.specs.Cases.{AllClaimed, cases, rowsWith, weightsWith}
+use Rattle.gf2.specs.Table.{tabulate, weightedSum}
+use Rattle.moves.specs.CarryOut.{carryOut, flipIf, flipPairs}
+use Rattle.moves.specs.Decide.{any, every, isLegal, sameBytes}
+use Rattle.phase.specs.Coefficients.{c, l, q}
+use Rattle.marked.proofs.Testing.{all-claimed, allC, allHold, allL, allQ, holds, isRefusal}
+use Rattle.marked.specs.Cases.{AllClaimed, cases, onesTo, rowsWith, weightsWith}
 
 computed : T (allHold cases)
-unfolding cases allHold holds same isRefusal weightsWith rowsWith readFrom readKind kindOf firstRows noWeights tabulate tGates isT delta oddSet members sum firstFault gateFault
+unfolding cases allHold holds sameBytes isRefusal weightsWith rowsWith readFrom readKind kindOf firstRows noWeights tabulate tGates isT delta oddSet members sum firstFault gateFault onesTo allL allQ allC l q c weightedSum bit every any combine isLegal flipPairs flipIf carryOut xorAll sumOver
 computed = tt
 
 pub marked : AllClaimed cases

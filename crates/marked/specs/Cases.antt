@@ -1,13 +1,17 @@
 -- Document 01, "Marked and other circuits": the marked cases as a table, and what each of them claims of the definitions.
 use mathlib.Core.List.{_++_, List, [], _∷_}
 use mathlib.Core.Path.{_≡_}
-use Prim.Native.Nat.{_-_, ℕ}
+use Prim.Native.Nat.{_-_, _<_, suc, zero, ℕ}
 use lib.ListN.{length, replicate, set}
 use Rattle.circuit.specs.Faults.{firstFault, sameWire}
 use Rattle.circuit.specs.Gate.{Gate, gate, tGates}
-use Rattle.circuit.specs.Limits.{maxWires, rowBytes}
+use Rattle.circuit.specs.Limits.{maxMembers, maxWires, rowBytes}
 use Rattle.circuit.specs.OddSet.{members, oddSet}
 use Rattle.circuit.specs.Read.{noWeights, read}
+use Rattle.circuit.specs.Sound.{SoundRows}
+use Rattle.moves.specs.CarryOut.{carryOut}
+use Rattle.moves.specs.Move.{Legal}
+use Rattle.phase.specs.Coefficients.{c, l, q}
 use Rattle.circuit.specs.declared.Reply.{Reply}
 use Rattle.circuit.specs.declared.Reply.the-variants.{Done, Refused}
 
@@ -21,6 +25,12 @@ pub data Case : Type 0 where
   reads : (n : ℕ) → List Gate → List Entry → List ℕ → (t : ℕ) → (odd : ℕ) → Case
   -- these gates on n wires have that fault first, at that gate
   refuses : (n : ℕ) → List Gate → (number : ℕ) → (place : ℕ) → Case
+  -- weights with these entries have that l for every wire, that q for every pair and that c for every three wires below n
+  coefficients : (n : ℕ) → List Entry → (every-l : ℕ) → (every-q : ℕ) → (every-c : ℕ) → Case
+  -- z and Y are a legal move for marks with these entries, and leave marks with those
+  leaves : (n : ℕ) → List Entry → (z : ℕ) → (Y : List ℕ) → List Entry → Case
+  -- rows 0 to n - 1 are not invertible: the combination s of them is 0
+  dependent : (n : ℕ) → (rows : List ℕ) → (s : ℕ) → Case
 
 -- weights with these entries, 0 elsewhere
 unfoldable pub weightsWith : List Entry → List ℕ
@@ -31,10 +41,19 @@ weightsWith (at p w ∷ es) = set (weightsWith es) p w
 unfoldable pub rowsWith : List ℕ → List ℕ
 rowsWith rows = rows ++ replicate (rowBytes - length rows) 0
 
+-- every l, every q and every c
+pub record AllCoefficients (n : ℕ) (w : List ℕ) (a b d : ℕ) : Type 0 where
+  pub l-is : (i : ℕ) → i < n → l w i ≡ a
+  pub q-is : (i j : ℕ) → i < j → j < n → q w i j ≡ b
+  pub c-is : (i j k : ℕ) → i < j → j < k → k < n → c w i j k ≡ d
+
 abbrev pub Claim : Case → Type 0
 Claim (reads n gs es rows t odd) =
     (read maxWires n gs .weights ≡ weightsWith es) × (read maxWires n gs .rows ≡ rowsWith rows) × (tGates gs ≡ t) × (members (oddSet (read maxWires n gs .weights)) ≡ odd)
 Claim (refuses n gs number place) = firstFault n 0 gs ≡ Refused number place
+Claim (coefficients n es a b d) = AllCoefficients n (weightsWith es) a b d
+Claim (leaves n es z Y left) = Legal maxMembers n (weightsWith es) z Y × (carryOut (weightsWith es) z Y ≡ weightsWith left)
+Claim (dependent n rows s) = SoundRows maxWires n (rowsWith rows) → ⊥
 
 abbrev pub AllClaimed : List Case → Type 0
 AllClaimed [] = Unit {0}
@@ -49,7 +68,12 @@ T-gate a = gate 2 a 0
 abbrev pub T-dagger : ℕ → Gate
 T-dagger a = gate 6 a 0
 
--- M1 to M5 and M10, in order
+-- weight 1 on the parities 1 to k
+unfoldable pub onesTo : ℕ → List Entry
+onesTo zero = []
+onesTo (suc k) = at (suc k) 1 ∷ onesTo k
+
+-- M1 to M10, in order
 unfoldable pub cases : List Case
 cases =
     reads 1 [] [] (1 ∷ []) 0 0
@@ -57,5 +81,9 @@ cases =
     ∷ reads 1 (T-gate 0 ∷ T-dagger 0 ∷ []) [] (1 ∷ []) 2 0
     ∷ reads 2 (CNOT 0 1 ∷ T-gate 1 ∷ []) (at 3 1 ∷ []) (1 ∷ 3 ∷ []) 1 1
     ∷ reads 2 (CNOT 0 1 ∷ CNOT 1 0 ∷ CNOT 0 1 ∷ []) [] (2 ∷ 1 ∷ []) 0 0
+    ∷ coefficients 3 (at 1 1 ∷ at 2 1 ∷ at 4 1 ∷ at 7 1 ∷ at 3 7 ∷ at 5 7 ∷ at 6 7 ∷ []) 0 0 1
+    ∷ coefficients 4 (onesTo 15) 0 0 0
+    ∷ leaves 4 (onesTo 15) 1 (2 ∷ 4 ∷ 6 ∷ 8 ∷ 10 ∷ 12 ∷ 14 ∷ []) []
+    ∷ dependent 2 (1 ∷ 1 ∷ []) 3
     ∷ refuses 1 (CNOT 0 0 ∷ []) sameWire 0
     ∷ []

@@ -1,7 +1,7 @@
 -- The laws of the entries on one page: which calls each accepts, and what its promise means. The proofs are in the modules named.
 use mathlib.Core.List.{List}
 use mathlib.Core.Logic.{_↔_}
-use mathlib.Core.Path.{refl, subst, sym, _∙_, _≡_}
+use mathlib.Core.Path.{subst, sym, _∙_, _≡_}
 use Prim.Native.Nat.{_*_, _+_, _<_, ℕ, _≤_}
 use lib.ListN.{getD, length}
 use lib.Pow.{pow-mono}
@@ -19,7 +19,7 @@ use Rattle.weights.proofs.Places.{c-place, l-place, q-place}
 use Rattle.weights.proofs.TableRule.{marks-sound, weights-sound}
 use Rattle.weights.proofs.Ways.{call-passes, passes-call}
 use Rattle.weights.specs.Entry.{CoefficientsOf, NewWeightsOf, OddSetOf, coefficientsFault, newWeightsFault, oddSetFault, replyOf, tablesFault}
-use Rattle.weights.specs.Faults.{callFault, marksFault, weightsFault}
+use Rattle.weights.specs.Faults.{marksFault, weightsFault}
 
 -- ---- fault 6, exactly where weights or marks are not sound
 

@@ -1,6 +1,6 @@
 -- Where the tables of coefficients and of rests keep what: place i for a wire, N j + i for two, N N k + N j + i for three.
 use mathlib.Core.List.{List}
-use mathlib.Core.Path.{ap, sym, _∙_, _≡_}
+use mathlib.Core.Path.{sym, _∙_, _≡_}
 use Prim.Native.Nat.{_%_, _*_, _+_, _/_, _<_, ℕ, _≤_}
 use native.Mathlib.Nat.{mul-comm, mul-le-mul-left, mul-suc}
 use native.Mathlib.Omega.{arith}

@@ -1,5 +1,5 @@
 -- Signed 32-bit integers: remainders of them, and one brought back to 0..3.
-use mathlib.Core.Path.{ap, refl, sym, _∙_, _≡_}
+use mathlib.Core.Path.{ap, refl, _≡_}
 use Prim.Native.Nat.{_%_, _+_, _-_, _/_, _<_, _^_, suc, zero, ℕ, _≤_}
 use native.Mathlib.Nat.{div-le-self, mod-le}
 use native.Mathlib.Decide.{decLt}

@@ -1,6 +1,6 @@
 -- A sum of weights in a signed 32-bit integer, each step as a natural number; and the sum over parities that it comes to.
 use mathlib.Core.List.{List}
-use mathlib.Core.Path.{ap, subst, sym, _∙_, _≡_}
+use mathlib.Core.Path.{ap, sym, _∙_, _≡_}
 use mathlib.Core.Logic.{_≢_}
 use Prim.Native.Nat.{_%_, _*_, _+_, _/_, _<_, _^_, suc, zero, ℕ, _≤_}
 use native.Mathlib.Numerals.{add-one}

@@ -1,7 +1,7 @@
 -- Fault 6: the steps of the code that finds it, and that there is none exactly where weights, or marks, are sound.
 use mathlib.Core.List.{List, [], _∷_}
 use mathlib.Core.Logic.{_≢_, _↔_}
-use mathlib.Core.Path.{ap, refl, sym, _∙_, _≡_}
+use mathlib.Core.Path.{refl, sym, _∙_, _≡_}
 use Prim.Native.Nat.{_+_, _<_, _^_, suc, zero, ℕ, _≤_}
 use native.Mathlib.Decide.{decLe, decLt, ℕ-discrete}
 use native.Mathlib.Nat.{add-zero}

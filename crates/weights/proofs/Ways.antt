@@ -1,16 +1,13 @@
 -- One law for each way out of the entries: the tests that led there give the reply, and the buffers are as it says.
 use mathlib.Core.List.{List}
 use mathlib.Core.Logic.{_≢_}
-use mathlib.Core.Path.{ap, ap₂, refl, sym, _∙_, _≡_}
+use mathlib.Core.Path.{ap, refl, sym, _∙_, _≡_}
 use Prim.Native.Nat.{ℕ, _≤_}
-use native.Mathlib.Omega.{arith}
 use lib.ListN.{length}
 use Rattle.circuit.proofs.Judging.{lent-pass, or-pass, or-well, refused, wires-pass, wires-well}
 use Rattle.circuit.specs.Faults.{lentFault, orElse, wiresFault}
 use Rattle.circuit.specs.Limits.{maxWires, pairBytes, tripleBytes, weightBytes}
 use Rattle.circuit.specs.OddSet.{oddSet}
-use Rattle.circuit.specs.Sound.{SoundMarks, SoundWeights}
-use Rattle.circuit.specs.declared.Reply.{Reply}
 use Rattle.circuit.specs.declared.Reply.the-variants.{Done, Refused}
 use Rattle.phase.specs.NewWeights.{newWeights}
 use Rattle.weights.proofs.TableRule.{marks-sound, weights-sound}

@@ -1,4 +1,4 @@
-// The coefficients l, q and c of weights (document 01, "Signature").
+// The coefficients l, q and c of weights (document 01, "Signature"). Internal: the caller brings 256 weights and wires below the most.
 ghost use mathlib.Core.Path.{_≡_};
 ghost use Prim.Native.Nat.{_*_, _<_, _≤_};
 ghost use lib.IntN.{pos};

@@ -1,0 +1,60 @@
+-- The answers of tests, and what a loop that looks at every number of a list has decided when it ends.
+use mathlib.Core.Bool.{Bool, false, not, true}
+use mathlib.Core.List.{List}
+use mathlib.Core.Path.{_∙_, _≡_, refl, sym}
+use Prim.Native.Nat.{_+_, _<_, _≤_, suc, ℕ}
+use native.Mathlib.Numerals.{add-one}
+use native.Mathlib.Omega.{arith}
+use lib.Bits.{bitXor}
+use lib.Dec.{eqb}
+use lib.ListN.{getD, length}
+use borrow.Author.Tests.{eqb-false, eqb-true, not-false, not-true}
+use Rattle.moves.proofs.Deciding.{separates-at}
+use Rattle.moves.specs.Move.{Separates}
+use Rattle.moves.specs.Sets.{Ascending, In}
+use Rattle.carry.specs.Decides.{Decides, Outside}
+
+pub answer-yes : {P : Type 0} → P → Decides true P
+answer-yes p = (λ e. p, λ e. let z : _≡_ {A = ℕ} 0 1 = cc in absurd (omega arith))
+
+pub answer-no : {P : Type 0} → (P → ⊥) → Decides false P
+answer-no n = (λ e. let z : _≡_ {A = ℕ} 0 1 = cc in absurd (omega arith), λ e. n)
+
+pub decides-equal : (a b : ℕ) → Decides (eqb a b) (a ≡ b)
+decides-equal a b = (eqb-true a b, eqb-false a b)
+
+-- from one question to another with the same answer
+pub decides-as : {P Q : Type 0} (r : Bool) → (P → Q) → (Q → P) → Decides r P → Decides r Q
+decides-as r there back d = (λ e. there (d .0 e), λ e q. d .1 e (back q))
+
+pub decides-not : {P : Type 0} (r : Bool) → Decides r P → Decides (not r) (P → ⊥)
+decides-not r d = (λ e. d .1 (not-true r e), λ e n. n (d .0 (not-false r e)))
+
+-- what a branch on `!answer` tells
+pub denied : {P : Type 0} (r : Bool) → Decides r P → not r ≡ true → P → ⊥
+denied r d e = d .1 (not-true r e)
+
+pub granted : {P : Type 0} (r : Bool) → Decides r P → not r ≡ false → P
+granted r d e = d .0 (not-false r e)
+
+-- ---- at the end of a loop over a list
+
+pub all-in : (P : ℕ → Type 0) (Y : List ℕ) (i : ℕ) → length Y ≤ i → ((j : ℕ) → j < i → P (getD Y j 0)) → (y : ℕ) → In y Y → P y
+all-in P Y i l all y t = rw (← (t .2)) (all (t .0) (omega (arith, t .1)))
+
+pub ascending-all : (Y : List ℕ) (i : ℕ) → length Y ≤ i + 1 → ((j : ℕ) → j < i → getD Y j 0 < getD Y (j + 1) 0) → Ascending Y
+ascending-all Y i l all j h = rw (← (add-one j)) (all j (omega arith))
+
+pub not-ascending : (Y : List ℕ) (i : ℕ) → i + 1 < length Y → getD Y (i + 1) 0 ≤ getD Y i 0 → Ascending Y → ⊥
+not-ascending Y i l h a = omega (arith, rw (← (add-one i)) at (a i (omega arith)))
+
+-- ---- z separates
+
+pub separates-found : (marks : List ℕ) (z : ℕ) (Y : List ℕ) (i : ℕ) → i < length Y → Outside marks Y (bitXor (getD Y i 0) z) → Separates marks z Y
+separates-found marks z Y i l o = separates-at marks z Y .1 (i, record { inside = l; member = o .0; outside = o .1 })
+
+pub separates-none : (marks : List ℕ) (z : ℕ) (Y : List ℕ) (i : ℕ) → length Y ≤ i → ((j : ℕ) → j < i → Outside marks Y (bitXor (getD Y j 0) z) → ⊥)
+    → Separates marks z Y → ⊥
+separates-none marks z Y i l none s =
+    let p = separates-at marks z Y .0 s in
+    none (p .0) (omega (arith, p .1 .inside)) (p .1 .member, p .1 .outside)

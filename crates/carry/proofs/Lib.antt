@@ -1,0 +1,6 @@
+pub mod Turns
+pub mod Deciding
+pub mod Columns
+pub mod Conditions
+pub mod Ways
+pub mod Laws

@@ -1,0 +1,76 @@
+-- The xor of the columns passed, and of those to come, is that of all.
+use mathlib.Core.List.{map}
+use mathlib.Core.Path.{refl}
+use Prim.Native.Nat.{_-_, _≤_}
+use native.Mathlib.Omega.{arith}
+use lib.ListN.{length}
+use borrow.Author.Needs.{needs}
+use denote.Ref.{now}
+use Rattle.circuit.specs.Limits.{maxWires}
+use Rattle.gf2.proofs.Leading.{lowest}
+use Rattle.gf2.specs.Over.{xorAll}
+use Rattle.gf2.specs.Sum.{sum}
+use Rattle.moves.specs.Kappa.{kappa}
+use Rattle.carry.proofs.Columns.{XorTo, balanced-by-xor, wire-lt, xor-end, xor-next}
+use Rattle.carry.proofs.legality.is_balanced.Statement.{statement}
+use Rattle.carry.proofs.legality.is_balanced.Tie as tie
+
+abbrev Inv-loop : tie.InvT-loop
+Inv-loop z ys t sum₀ i₀ sum i = (i ≤ length ys) × XorTo (kappa maxWires z t) ys i sum (xorAll (map (kappa maxWires z t) ys))
+
+abbrev μ-loop : tie.MeasureT-loop
+μ-loop z ys t sum₀ i₀ sum i = length ys - i
+
+lowest-requires : tie.Need-lowest-requires Inv-loop μ-loop
+lowest-requires c κs = search needs
+
+loop-holds : tie.Need-loop-holds Inv-loop μ-loop
+loop-holds c = (search needs, refl)
+
+shared-slice-read-column : tie.Need-shared-slice-read-column Inv-loop μ-loop
+shared-slice-read-column c = search needs
+
+column-requires : tie.Need-column-requires Inv-loop μ-loop
+column-requires c κs =
+    let a = c .before .before .before .before .before .args in
+    wire-lt maxWires (a .z) (c .before .before .before .lowest .result) (c .before .before .before .lowest .ensures) (c .before .before .before .before .before .pre) (omega arith)
+
+add-i : tie.Need-add-i Inv-loop μ-loop
+add-i c = search needs
+
+loop-less : tie.Need-loop-less Inv-loop μ-loop
+loop-less c = search needs
+
+loop-again : tie.Need-loop-again Inv-loop μ-loop
+loop-again c =
+    let a = c .before .before .before .before .before .before .args in
+    let at = c .before .before .before .loop in
+    let f = kappa maxWires (a .z) (c .before .before .before .before .lowest .result) in (
+      search needs,
+      xor-next f (now (a .ys)) (at .i) (at .sum) (c .column .result) (xorAll (map f (now (a .ys)))) (c .before .before .loop-test .taken) (c .column .ensures .0) (at .inv .1),
+    )
+
+returns : tie.Need-returns Inv-loop μ-loop
+returns c =
+    let a = c .before .before .before .before .args in
+    let at = c .before .loop in
+    let ys = now (a .ys) in
+    let t = c .before .before .lowest .result in
+    let f = kappa maxWires (a .z) t in
+    balanced-by-xor maxWires (a .z) t (c .before .before .lowest .ensures) (c .before .before .before .before .pre) (omega arith) ys (at .sum)
+    (λ i l. omega (arith, c .before .before .before .shared-slice-known .given i)) (xor-end f ys (at .i) (at .sum) (xorAll (map f ys)) (omega arith) (at .inv .1))
+
+pub is-balanced-spec : {M : Type 1} → statement M
+is-balanced-spec =
+    tie.close
+    (tie.spec
+    Inv-loop
+    μ-loop
+    lowest-requires
+    loop-holds
+    shared-slice-read-column
+    column-requires
+    add-i
+    loop-less
+    loop-again
+    returns)

@@ -1,0 +1,45 @@
+-- The form of the bytes, and then the move that they say.
+use native.Mathlib.Omega.{arith}
+use borrow.Author.Needs.{needs}
+use denote.Ref.{now}
+use Rattle.circuit.specs.Limits.{maxMembers, maxWires}
+use Rattle.carry.proofs.Conditions.{legal-said, move-if-legal, set-few}
+use Rattle.carry.proofs.Deciding.{answer-no, denied, granted}
+use Rattle.carry.proofs.legality.is_move.Statement.{statement}
+use Rattle.carry.proofs.legality.is_move.Tie as tie
+
+has-form-requires : tie.Need-has-form-requires
+has-form-requires c κs = search needs
+
+returns : tie.Need-returns
+returns c =
+    let a = c .before .before .before .before .args in
+    answer-no (λ g. denied (c .before .has-form .result) (c .before .has-form .ensures) (c .if1 .taken) (legal-said maxMembers maxWires (now (a .marks)) (now (a .bytes)) g .0))
+
+shared-slice-read-is-legal : tie.Need-shared-slice-read-is-legal
+shared-slice-read-is-legal c =
+    let f = (granted (c .before .before .has-form .result) (c .before .before .has-form .ensures) (c .before .if1 .left)) in
+    omega (arith, f .long)
+
+set-of-requires : tie.Need-set-of-requires
+set-of-requires c κs = granted (c .before .before .has-form .result) (c .before .before .has-form .ensures) (c .before .if1 .left)
+
+is-legal-requires : tie.Need-is-legal-requires
+is-legal-requires c κs = (c .before .before .before .before .before .before .pre, rw (c .set-of .ensures) (set-few maxMembers (now (c .before .before .before .before .before .before .args .bytes)) (granted (c .before .before .before .has-form .result) (c .before .before .before .has-form .ensures) (c .before .before .if1 .left))))
+
+returns-2 : tie.Need-returns-2
+returns-2 c =
+    let a = c .before .before .before .before .before .before .before .args in
+    move-if-legal maxMembers maxWires (now (a .marks)) (now (a .bytes)) (now (c .before .set-of .result)) (c .is-legal .result)
+    (granted (c .before .before .before .before .has-form .result) (c .before .before .before .before .has-form .ensures) (c .before .before .before .if1 .left)) (c .before .set-of .ensures) (c .is-legal .ensures)
+
+pub is-move-spec : {M : Type 1} → statement M
+is-move-spec =
+    tie.close
+    (tie.spec
+    has-form-requires
+    returns
+    shared-slice-read-is-legal
+    set-of-requires
+    is-legal-requires
+    returns-2)

@@ -1,0 +1,39 @@
+-- The rule of the product table's entries, carried from one test over the whole table to each entry; and an entry by its rule.
+use mathlib.Core.Bool.{Bool}
+use mathlib.Core.List.{List}
+use mathlib.Core.Path.{_≡_}
+use Prim.Native.Nat.{_*_, _+_, _<_, _^_, suc, ℕ}
+use native.Mathlib.Omega.{arith}
+use lib.Dec.{T, eqb, eqb→eq, ltb, ltb→lt}
+use lib.ListN.{getD, length}
+use Rattle.circuit.specs.Limits.{maxWires, productBits}
+use Rattle.gf2.specs.Bit.{bit}
+use Rattle.moves.proofs.Products.{product-by-bits}
+use Rattle.moves.specs.Product.{product, tri}
+use Rattle.columns.proofs.Computed.{below, below-at, both, both-left, both-right, every, every-at}
+use Rattle.columns.specs.Table.{ProductEntry}
+
+-- the rule for i and j, of entry p
+unfoldable pub pairRight : ℕ → ℕ → ℕ → ℕ → Bool
+pairRight p x j i = eqb (bit x (tri j + i)) (bit p i * bit p j)
+
+-- and for all i ≤ j
+unfoldable pub entryRight : ℕ → ℕ → Bool
+entryRight p x = both (ltb x (2 ^ productBits)) (below (λ j. below (pairRight p x j) (suc j)) maxWires)
+
+pub entry-at : (xs : List ℕ) → T (every entryRight 0 xs) → (p : ℕ) → p < length xs → ProductEntry p (getD xs p 0)
+unfolding entryRight pairRight
+entry-at xs t p h =
+    let x : ℕ = getD xs p 0 in
+    let e : T (entryRight p x) = every-at entryRight xs t p h in
+    record {
+      fits = ltb→lt x (2 ^ productBits) (both-left (ltb x (2 ^ productBits)) _ e);
+      rule = λ i j k l.
+          eqb→eq _ _ (below-at (pairRight p x j) (suc j)
+          (below-at (λ j. below (pairRight p x j) (suc j)) maxWires (both-right (ltb x (2 ^ productBits)) _ e) j l) i (omega arith));
+    }
+
+-- a number with this rule is the entry
+pub entry-is : (p r : ℕ) → ProductEntry p r → r ≡ product maxWires p
+unfolding tri
+entry-is p r e = product-by-bits maxWires p r (e .fits) (e .rule)

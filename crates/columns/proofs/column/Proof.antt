@@ -1,0 +1,46 @@
+-- One look-up, for y without wire t and for y with it.
+use borrow.Author.Needs.{needs}
+use Rattle.columns.proofs.Wires.{column-with, column-without}
+use Rattle.columns.proofs.column.Statement.{statement}
+use Rattle.columns.proofs.column.Tie as tie
+
+cast-if1 : tie.Need-cast-if1
+cast-if1 c = search needs
+
+shr-if1 : tie.Need-shr-if1
+shr-if1 c = search needs
+
+product-requires : tie.Need-product-requires
+product-requires c κs = search needs
+
+returns : tie.Need-returns
+returns c =
+    let a = c .before .before .args in
+    column-without (a .z) (a .t) (a .y) (c .product .result) (c .before .before .pre) (c .before .if1 .taken) (c .product .ensures)
+
+product-requires-2 : tie.Need-product-requires-2
+product-requires-2 c κs = search needs
+
+place-requires : tie.Need-place-requires
+place-requires c κs = search needs
+
+shl-result : tie.Need-shl-result
+shl-result c = search needs
+
+returns-2 : tie.Need-returns-2
+returns-2 c =
+    let a = c .before .before .before .args in
+    column-with (a .z) (a .t) (a .y) (c .before .product2 .result) (c .place .result) (c .before .before .before .pre) (c .before .before .if1 .left) (c .before .product2 .ensures) (c .place .ensures .0) (c .place .ensures .1)
+
+pub column-spec : {M : Type 1} → statement M
+column-spec =
+    tie.close
+    (tie.spec
+    cast-if1
+    shr-if1
+    product-requires
+    returns
+    product-requires-2
+    place-requires
+    shl-result
+    returns-2)

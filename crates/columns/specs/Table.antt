@@ -1,0 +1,11 @@
+-- Document 01, "Signature": what an entry of the product table is, read off its bits.
+use mathlib.Core.Path.{_≡_}
+use Prim.Native.Nat.{_*_, _+_, _<_, _^_, _≤_, ℕ}
+use Rattle.circuit.specs.Limits.{maxWires, productBits}
+use Rattle.gf2.specs.Bit.{bit}
+use Rattle.moves.specs.Product.{tri}
+
+-- r has 36 bits, and for i ≤ j, bit j(j+1)/2 + i of it is set when p names both i and j
+pub record ProductEntry (p r : ℕ) : Type 0 where
+  pub fits : r < 2 ^ productBits
+  pub rule : (i j : ℕ) → i ≤ j → j < maxWires → bit r (tri j + i) ≡ bit p i * bit p j

@@ -1,0 +1,128 @@
+-- The laws of moves on one page, for every n: `size` is the number of marks, `most` the most that Y may have. The proofs are in the modules named.
+use mathlib.Core.List.{List, map}
+use mathlib.Core.Logic.{_↔_, _≢_}
+use mathlib.Core.Path.{_≡_, ap, refl}
+use Prim.Native.Nat.{_*_, _+_, _/_, _<_, _^_, _≤_, ℕ}
+use native.Mathlib.Nat.{le-refl}
+use native.Mathlib.Omega.{arith}
+use lib.Bits.{bitXor}
+use lib.Count.{trailingZeros}
+use lib.Dec.{T}
+use lib.ListN.{length}
+use lib.Pow.{pow-mono}
+use Rattle.circuit.specs.Limits.{logBytes, maxMembers, maxWires, moveBytes, productBits, weightBytes}
+use Rattle.circuit.specs.OddSet.{members, oddSet}
+use Rattle.circuit.specs.Sound.{SoundMarks}
+use Rattle.gf2.proofs.Leading.{lowest}
+use Rattle.gf2.specs.Bit.{bit}
+use Rattle.gf2.specs.Over.{Below, xorAll}
+use Rattle.phase.specs.Signature.{SameSignature}
+use Rattle.moves.proofs.Bound.{bound}
+use Rattle.moves.proofs.Deciding.{move-decided}
+use Rattle.moves.proofs.Keep.{keeps, odd-set-signature, sound-kept}
+use Rattle.moves.proofs.Logs.{bytes-unique}
+use Rattle.moves.proofs.OneXor.{balanced-iff}
+use Rattle.moves.proofs.Pairs.{none-reached, offer-iff}
+use Rattle.moves.proofs.Products.{product-bit, product-by-bits, product-lt, tri-mono, tri-square}
+use Rattle.moves.proofs.Replaying.{replays-shrinks, replays-signature}
+use Rattle.moves.proofs.Shrink.{shrinks}
+use Rattle.moves.proofs.Wires.{legal-wires}
+use Rattle.moves.specs.CarryOut.{carryOut}
+use Rattle.moves.specs.Decide.{isMove}
+use Rattle.moves.specs.Kappa.{kappa}
+use Rattle.moves.specs.Log.{LegalBytes, asBytes}
+use Rattle.moves.specs.Move.{Balanced, Legal, Member}
+use Rattle.moves.specs.Pair.{Offer, Reach}
+use Rattle.moves.specs.Product.{product, tri}
+use Rattle.moves.specs.Replay.{Replays}
+
+-- ---- document 01, "Signature": the product table
+
+-- bit j(j+1)/2 + i of entry p is set when p names both i and j
+pub entry-bit : (n p i j : ℕ) → i ≤ j → j < n → bit (product n p) (j * (j + 1) / 2 + i) ≡ bit p i * bit p j
+unfolding tri
+entry-bit n p i j h l = product-bit n p i j h l
+
+-- and an entry has no other bits
+pub entry-fits : (n p : ℕ) → product n p < 2 ^ tri n
+entry-fits = product-lt
+
+pub entry-by-bits : (n p x : ℕ) → x < 2 ^ tri n → ((i j : ℕ) → i ≤ j → j < n → bit x (tri j + i) ≡ bit p i * bit p j) → x ≡ product n p
+entry-by-bits = product-by-bits
+
+-- ---- document 01, "Legal moves": what a legal move does
+
+module _ (size n most : ℕ) (room : 2 ^ n ≤ size) (marks : List ℕ) (sound : SoundMarks size n marks) where
+  -- the signature stays
+  pub move-keeps-signature : (z : ℕ) (Y : List ℕ) → Legal most n marks z Y → SameSignature n (carryOut marks z Y) marks
+  move-keeps-signature = keeps size n most room marks sound
+
+  pub move-leaves-sound : (z : ℕ) (Y : List ℕ) → Legal most n marks z Y → SoundMarks size n (carryOut marks z Y)
+  move-leaves-sound = sound-kept size n most room marks sound
+
+  -- the odd set shrinks by one at least
+  pub move-shrinks : (z : ℕ) (Y : List ℕ) → Legal most n marks z Y → members (carryOut marks z Y) + 1 ≤ members marks
+  move-shrinks = shrinks size n most room marks sound
+
+  -- where no move is legal, at most (n² + n)/2 + 1 members are left
+  pub none-legal-bound : tri n + 1 ≤ most → ((z : ℕ) (Y : List ℕ) → Legal most n marks z Y → ⊥) → members marks ≤ (n * n + n) / 2 + 1
+  none-legal-bound enough none = rw (← (tri-square n)) (bound size n most marks sound enough none)
+
+  -- on more wires the same moves are legal
+  pub same-on-more-wires : (N z : ℕ) (Y : List ℕ) → n ≤ N → Legal most n marks z Y ↔ Legal most N marks z Y
+  same-on-more-wires N z Y h = legal-wires size n N most marks h sound z Y
+
+  -- ---- the finder
+
+  -- members a and b that differ on wire t: a legal move with a in Y and b not in Y, exactly where the column of a is the xor of columns of others
+  pub pair-exact : (a b t : ℕ) → Member marks a → Member marks b → t < n → bit (bitXor a b) t ≡ 1 → Offer most n marks a b ↔ Reach most n t marks a b
+  pair-exact a b t ma mb l h = offer-iff size n most room marks sound a b t ma mb l h
+
+  -- no pair reaches: no z and Y make a legal move
+  pub none-exact : ((a b : ℕ) → Member marks a → Member marks b → a ≢ b → Reach most n (trailingZeros n (bitXor a b)) marks a b → ⊥)
+      → (z : ℕ) (Y : List ℕ) → Legal most n marks z Y → ⊥
+  none-exact = none-reached size n most room marks sound (trailingZeros n) (λ z ne l. lowest n n z (le-refl _) ne l)
+
+pub bound-number : (n : ℕ) → tri n + 1 ≡ (n * n + n) / 2 + 1
+bound-number n = ap (λ (x : ℕ). x + 1) (tri-square n)
+
+-- the xor of Y is 0 and every triple condition holds, exactly where one xor is 0
+pub one-xor : (n z t : ℕ) → t < n → bit z t ≡ 1 → (Y : List ℕ) → Below (2 ^ n) Y → Balanced n z Y ↔ (xorAll (map (kappa n z t) Y) ≡ 0)
+one-xor = balanced-iff
+
+-- ---- moves as bytes, and logs of them
+
+-- legality of bytes is decided by computing
+pub legality-decided : (most n : ℕ) (marks bytes : List ℕ) → T (isMove most n marks bytes) ↔ LegalBytes most n marks bytes
+legality-decided = move-decided
+
+-- bytes say one move
+pub one-move : (most z z′ : ℕ) (Y Y′ : List ℕ) → asBytes most z Y ≡ asBytes most z′ Y′ → (z ≡ z′) × (Y ≡ Y′)
+one-move = bytes-unique
+
+-- carrying out logged moves keeps the signature, and every one takes a member at least
+pub replay-keeps-signature : (size n most : ℕ) → 2 ^ n ≤ size → (m : List ℕ) (moves : List (List ℕ)) (m′ : List ℕ) → SoundMarks size n m → Replays most n m moves m′
+    → SameSignature n m′ m
+replay-keeps-signature = replays-signature
+
+pub replay-shrinks : (size n most : ℕ) → 2 ^ n ≤ size → (m : List ℕ) (moves : List (List ℕ)) (m′ : List ℕ) → SoundMarks size n m → Replays most n m moves m′
+    → length moves + members m′ ≤ members m
+replay-shrinks = replays-shrinks
+
+-- the odd set of weights has their signature
+pub odd-set-keeps-signature : (n : ℕ) (w : List ℕ) → SameSignature n (oddSet w) w
+odd-set-keeps-signature = odd-set-signature
+
+-- ---- up to eight wires
+
+-- the marks have room, Y may have as many members as the bound's proof needs, and an entry has productBits bits
+pub limits-suffice : (n : ℕ) → n ≤ maxWires → (2 ^ n ≤ weightBytes) × (tri n + 1 ≤ maxMembers) × (tri maxWires ≡ productBits)
+unfolding tri
+limits-suffice n h = (pow-mono {i = n} {j = maxWires} h, few, refl)
+  where
+    few : n * (n + 1) / 2 + 1 ≤ maxMembers
+    few = omega (arith, tri-mono n maxWires h)
+
+-- document 01's numbers: entries of 36 bits, forty bytes a move, a log of 10,200
+pub limits-numbers : (productBits ≡ 36) × (moveBytes ≡ 40) × (logBytes ≡ 10200)
+limits-numbers = (refl, refl, refl)

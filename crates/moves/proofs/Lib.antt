@@ -1,0 +1,17 @@
+pub mod Sets
+pub mod Even
+pub mod Flips
+pub mod Change
+pub mod Keep
+pub mod Shrink
+pub mod Products
+pub mod Bound
+pub mod OneXor
+pub mod Pairs
+pub mod Spelling
+pub mod Finding
+pub mod Wires
+pub mod Logs
+pub mod Replaying
+pub mod Deciding
+pub mod Laws

@@ -1,0 +1,11 @@
+pub mod HexDigits
+pub mod LineForms
+pub mod TextFaults
+pub mod Storing
+pub mod TextWays
+pub mod Deciding
+pub mod Writing
+pub mod WrittenReads
+pub mod ReadsWritten
+pub mod TextLaws
+pub mod TextExamples

@@ -1,0 +1,32 @@
+-- The entry `read_text`: its reply and what it leaves in the lent gates, for every text and every lent length.
+use mathlib.Core.Bool.{cond}
+use mathlib.Core.List.{List}
+use mathlib.Core.Path.{_≡_}
+use Prim.Native.Nat.{_/_, ℕ}
+use lib.Dec.{ltb}
+use lib.ListN.{length}
+use Rattle.circuit.specs.Faults.{lentOutput}
+use Rattle.circuit.specs.Limits.{gateBytes, maxListBytes}
+use Rattle.text.specs.Placed.{placed}
+use Rattle.text.specs.Text.{Text, circuit, faulty, readText}
+use Rattle.text.specs.declared.TextReply.{TextReply}
+use Rattle.text.specs.declared.TextReply.the-variants.{Done, Refused}
+
+-- check 8, then the text: the lent gates must have room for every list
+abbrev pub readInto : ℕ → List ℕ → Text
+readInto lent text = cond (ltb lent maxListBytes) (faulty lentOutput 0) (readText text)
+
+-- the wire count and the number of gates, or the fault's number and place
+abbrev pub replyOf : Text → TextReply
+replyOf (circuit n bytes) = Done n (length bytes / gateBytes)
+replyOf (faulty number place) = Refused number place
+
+-- the lent gates after it: the gates' bytes from the start and the rest as it was, or all as it was
+abbrev pub gatesAfter : Text → List ℕ → List ℕ
+gatesAfter (circuit n bytes) was = placed was 0 bytes
+gatesAfter (faulty number place) was = was
+
+-- `read_text`, called with this text and these lent gates, replies r and leaves gates′
+pub record ReadText (text gates gates′ : List ℕ) (r : TextReply) : Type 0 where
+  pub reply : r ≡ replyOf (readInto (length gates) text)
+  pub gates-left : gates′ ≡ gatesAfter (readInto (length gates) text) gates

@@ -1,0 +1,20 @@
+-- Bytes put into a lent buffer.
+use mathlib.Core.List.{List, _++_}
+use mathlib.Core.Path.{_≡_}
+use Prim.Native.Nat.{_*_, _+_, ℕ}
+use lib.ListN.{drop, length, take}
+use Rattle.circuit.specs.Limits.{gateBytes}
+
+-- `bytes` from place `at` on; every other byte as it was
+abbrev pub placed : List ℕ → ℕ → List ℕ → List ℕ
+placed was at bytes = take at was ++ bytes ++ drop (at + length bytes) was
+
+-- a function that stores gates from the start of what is lent, three bytes each, and gives back their number
+pub record Stores (was bytes left : List ℕ) (count : ℕ) : Type 0 where
+  pub counted : gateBytes * count ≡ length bytes
+  pub stored : left ≡ placed was 0 bytes
+
+-- a function that writes `bytes` from place `at` on, and gives back the place after them
+pub record Writes (was : List ℕ) (at : ℕ) (bytes left : List ℕ) (next : ℕ) : Type 0 where
+  pub onward : next ≡ at + length bytes
+  pub written : left ≡ placed was at bytes

@@ -1,0 +1,44 @@
+// The text form of circuits (document 01, "Text form"): a text read into gates, and the lines that the program writes.
+// Public entry: `read_text`. Its promise is the record ReadText of specs/Entry; proofs/TextLaws says what the promise means.
+ghost use mathlib.Core.Path.{_≡_};
+ghost use Rattle.text.specs.Entry.{ReadText};
+
+pub mod hex;
+pub mod limits;
+pub mod lines;
+pub mod reading;
+
+use circuit::Reply;
+use circuit::faults::OUTPUT;
+use circuit::limits::MAX_LIST_BYTES;
+use reading::byte_at;
+use reading::store_gates;
+use reading::text_fault;
+
+// The wire count and the number of gates, or document 01's number and place of the fault.
+pub enum TextReply {
+    Done { n: usize, gates: usize },
+    Refused { number: u8, place: usize },
+}
+
+// Reads a text into its gates' bytes, from the start of what is lent. A refusal leaves all as it was.
+pub fn read_text(text: &[u8], gates: &mut [u8]) -> TextReply
+    ensures { λ r. ⌜ ReadText (now (text .entry)) (now (gates .entry)) (now (gates .exit)) r ⌝ }
+{
+    if gates.len() < MAX_LIST_BYTES {
+        return TextReply::Refused {
+            number: OUTPUT,
+            place: 0,
+        };
+    }
+    let found = text_fault(text);
+    if let Reply::Refused { number, place } = found {
+        return TextReply::Refused {
+            number: number,
+            place: place,
+        };
+    }
+    let n = byte_at(text, 0) as usize;
+    let m = store_gates(text, gates);
+    TextReply::Done { n: n, gates: m }
+}

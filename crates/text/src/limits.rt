@@ -1,0 +1,31 @@
+// The lengths of the text form, each once in the code. The same names stand in specs/Limits.antt, and the proofs hold the two together.
+use circuit::limits::GATE_BYTES;
+use circuit::limits::MAX_GATES;
+use circuit::limits::MAX_WIRES;
+use circuit::limits::WEIGHT_BYTES;
+
+// n, of line one.
+pub const WIRES_DIGITS: usize = 2;
+
+// Two digits for each byte of a gate.
+pub const GATE_DIGITS: usize = 2 * GATE_BYTES;
+
+// A line has its digits and a newline.
+pub const WIRES_LINE_BYTES: usize = WIRES_DIGITS + 1;
+
+pub const GATE_LINE_BYTES: usize = GATE_DIGITS + 1;
+
+// So many bytes of a text decide what it is: one more than the longest circuit has.
+pub const TEXT_BYTES: usize = WIRES_LINE_BYTES + GATE_LINE_BYTES * MAX_GATES + 1;
+
+// Four numbers of four digits, a space or the newline after each.
+pub const COUNTS_LINE_BYTES: usize = 4 * 5;
+
+// `refused `, two digits, a space, four digits, a newline.
+pub const REFUSED_LINE_BYTES: usize = 8 + 2 + 1 + 4 + 1;
+
+// The most gates that are written.
+pub const MAX_WRITTEN: usize = MAX_WIRES * WEIGHT_BYTES + MAX_WIRES * MAX_WIRES;
+
+// The longest reply: n, the counts, the gates.
+pub const REPLY_BYTES: usize = WIRES_LINE_BYTES + COUNTS_LINE_BYTES + GATE_LINE_BYTES * MAX_WRITTEN;

@@ -1,0 +1,72 @@
+//! What must hold of a written list (demand 2, and document 01, "The new weights"), and a plain list for given weights.
+
+use crate::faults;
+use crate::gates::{gates_of, CNOT, GATE_BYTES, S, S_DAGGER, T, T_DAGGER, Z};
+use crate::reading::{self, Reading, Weights};
+
+/// The fewest bytes that may be lent for a written list.
+pub const WRITTEN_BYTES: usize = 6336;
+
+/// The gates that spell a weight.
+pub fn spelling(weight: u8) -> &'static [u8] {
+    match weight {
+        0 => &[],
+        1 => &[T],
+        2 => &[S],
+        3 => &[S, T],
+        4 => &[Z],
+        5 => &[Z, T],
+        6 => &[S_DAGGER],
+        7 => &[T_DAGGER],
+        _ => panic!("{weight} is no weight"),
+    }
+}
+
+/// The most gates that a list on n wires may take.
+pub fn most_written(n: usize) -> usize {
+    (n << n) + n * n
+}
+
+/// Holds a list written for sound weights and rows against all that is demanded of it. Answers the first thing amiss.
+pub fn check_written(n: usize, wanted: &Reading, list: &[u8]) -> Result<(), String> {
+    if faults::list_reply(n, list) != faults::DONE {
+        return Err(format!("a faulty list was written: {:?}", faults::list_reply(n, list)));
+    }
+    let gates = list.len() / GATE_BYTES;
+    if gates > most_written(n) {
+        return Err(format!("{gates} gates on {n} wires"));
+    }
+    for kind in [T, S, Z, S_DAGGER, T_DAGGER] {
+        let written = gates_of(list).filter(|gate| gate.kind == kind).count();
+        let spelled =
+            wanted.weights.iter().flat_map(|weight| spelling(*weight)).filter(|other| **other == kind).count();
+        if written != spelled {
+            return Err(format!("{written} gates of kind {kind}, and the weights spell {spelled}"));
+        }
+    }
+    check_reads_back(n, wanted, list)
+}
+
+/// The second half of demand 2: the list reads back as exactly these weights and rows. Brute force reads it.
+pub fn check_reads_back(n: usize, wanted: &Reading, list: &[u8]) -> Result<(), String> {
+    let back = reading::read(n, list);
+    if back != *wanted {
+        return Err(format!("reads back as {back:?}"));
+    }
+    Ok(())
+}
+
+/// A list with these weights that leaves the wires as they were: for each parity, T as often as its weight says, on the
+/// highest wire that it names, the others' bits being put there before and taken away after. It makes inputs for tests.
+pub fn plain_list(weights: &Weights) -> Vec<u8> {
+    let mut list = Vec::new();
+    for (p, weight) in (0u8..=255).zip(weights).filter(|(_, weight)| **weight != 0) {
+        let wires: Vec<u8> = (0..8).filter(|wire| p >> wire & 1 == 1).collect();
+        let (target, others) = wires.split_last().expect("parity 0 has no weight");
+        let gather: Vec<u8> = others.iter().flat_map(|wire| [CNOT, *wire, *target]).collect();
+        list.extend(&gather);
+        list.extend([T, *target, 0].repeat(usize::from(*weight)));
+        list.extend(&gather);
+    }
+    list
+}

@@ -1,0 +1,180 @@
+//! The reference's checks of written lists and of trims must be able to say no. What they judge comes from the trimmer
+//! built for speed. No C function is called.
+
+use sulmedra_reference::fast::{self, Trimmed};
+use sulmedra_reference::gates::{GATE_BYTES, MOST_GATES};
+use sulmedra_reference::odd_set::{odd_set, size};
+use sulmedra_reference::random::{circuit, rows, weights, Random};
+use sulmedra_reference::reading::{read, Reading};
+use sulmedra_reference::trimming::{check_trim, Counts};
+use sulmedra_reference::writing::{check_written, most_written, plain_list, spelling};
+use sulmedra_reference::{existence, published};
+
+fn trim(n: usize, list: &[u8]) -> Trimmed {
+    fast::trim(n, list, fast::find)
+}
+
+fn check(n: usize, list: &[u8], trimmed: &Trimmed) -> Result<(), String> {
+    check_trim(n, list, &trimmed.gates, &trimmed.log, &trimmed.counts)
+}
+
+#[test]
+fn the_fast_reader_reads_as_brute_force_does() {
+    let mut random = Random::new(120);
+    for n in 1..=8 {
+        for length in [0, 1, 10, 100, 1000] {
+            let list = circuit(&mut random, n, length);
+            assert_eq!(fast::read(n, &list), read(n, &list), "n = {n}, list {list:?}");
+        }
+    }
+}
+
+#[test]
+fn plain_lists_have_their_weights() {
+    let mut random = Random::new(121);
+    for n in 1..=8 {
+        let table = weights(&mut random, n);
+        let reading = read(n, &plain_list(&table));
+        assert_eq!(reading.weights, table);
+        assert_eq!(reading.rows[..n], [1, 2, 4, 8, 16, 32, 64, 128][..n]);
+    }
+}
+
+#[test]
+fn the_spelling_adds_up_to_the_weight() {
+    for weight in 0..8u8 {
+        let sum: u8 = spelling(weight).iter().map(|kind| [0, 0, 1, 2, 4, 6, 7][usize::from(*kind)]).sum();
+        assert_eq!(sum, weight);
+    }
+}
+
+#[test]
+fn written_lists_are_accepted_and_damaged_ones_are_not() {
+    let mut random = Random::new(122);
+    for n in 1..=8 {
+        for _ in 0..20 {
+            let wanted = Reading { weights: weights(&mut random, n), rows: rows(&mut random, n) };
+            let list = fast::write(n, &wanted.weights, &wanted.rows);
+            assert_eq!(check_written(n, &wanted, &list), Ok(()), "n = {n}");
+            if list.is_empty() {
+                continue;
+            }
+            let place = random.below(list.len() / GATE_BYTES) * GATE_BYTES;
+            let mut shorter = list.clone();
+            shorter.drain(place..place + GATE_BYTES);
+            assert!(check_written(n, &wanted, &shorter).is_err(), "a gate is missing, n = {n}");
+            let mut longer = list.clone();
+            longer.extend([4, 0, 0, 4, 0, 0]);
+            assert!(check_written(n, &wanted, &longer).is_err(), "Z twice adds nothing, but is not spelled, n = {n}");
+        }
+    }
+    assert_eq!(most_written(8), 2112);
+}
+
+#[test]
+fn random_trims_meet_demand_3() {
+    let mut random = Random::new(123);
+    for n in 1..=8 {
+        for length in [0, 1, 5, 20, 60, 200, 1000, MOST_GATES] {
+            let list = circuit(&mut random, n, length);
+            assert_eq!(check(n, &list, &trim(n, &list)), Ok(()), "n = {n}, list {list:?}");
+        }
+    }
+}
+
+/// The trim's promise does not hang on the finder.
+#[test]
+fn other_finders_serve_as_well() {
+    let mut random = Random::new(124);
+    for n in 3..=6 {
+        let list = circuit(&mut random, n, 300);
+        assert_eq!(check(n, &list, &fast::trim(n, &list, existence::find)), Ok(()));
+        assert_eq!(check(n, &list, &fast::trim(n, &list, published::find)), Ok(()));
+    }
+}
+
+#[test]
+fn the_marked_circuits() {
+    let mut m6 = [0; 256];
+    m6[1..8].copy_from_slice(&[1, 1, 7, 1, 7, 7, 1]);
+    let kept = trim(3, &plain_list(&m6));
+    assert_eq!((kept.counts.t_out, kept.counts.moves), (7, 0));
+    assert_eq!(read(3, &kept.gates).weights, m6);
+
+    let mut m7 = [0; 256];
+    m7[1..16].fill(1);
+    let gone = trim(4, &plain_list(&m7));
+    assert_eq!((gone.counts.t_out, gone.counts.moves), (0, 1));
+
+    m7[1] = 0;
+    let left = trim(4, &plain_list(&m7));
+    assert_eq!(left.counts.t_out, 1);
+    assert_eq!(read(4, &left.gates).weights[1], 7);
+}
+
+/// A circuit with moves in its log, and the right trim of it.
+fn with_moves(random: &mut Random) -> (usize, Vec<u8>, Trimmed) {
+    loop {
+        let n = random.between(4, 6);
+        let list = circuit(random, n, 200);
+        let trimmed = trim(n, &list);
+        if trimmed.counts.moves >= 2 && trimmed.counts.t_out >= 1 {
+            return (n, list, trimmed);
+        }
+    }
+}
+
+/// Each cheat that document 01 shuts out, and each count by itself.
+#[test]
+fn cheats_are_noticed() {
+    let mut random = Random::new(125);
+    for _ in 0..10 {
+        let (n, list, right) = with_moves(&mut random);
+        assert_eq!(check(n, &list, &right), Ok(()));
+        let Trimmed { gates, log, counts } = &right;
+        let refused = |why: &str, gates: &[u8], log: &[u8], counts: Counts| {
+            assert!(check_trim(n, &list, gates, log, &counts).is_err(), "{why}, n = {n}, list {list:?}");
+        };
+
+        let reading = read(n, &list);
+        let odd = odd_set(&reading.weights);
+        let copy = fast::write(n, &fast::new_weights(n, &reading.weights, &odd), &reading.rows);
+        let idle = Counts { t_out: size(&odd), moves: 0, gates: copy.len() / GATE_BYTES, ..*counts };
+        refused("a copier, or a finder that says none before looking", &copy, &[], idle);
+        let once = fast::trim(n, &list, |n, marks| if *marks == odd { fast::find(n, marks) } else { None });
+        refused("one honest move, then none", &once.gates, &once.log, once.counts);
+        let idle_log = [&log[..], &[0; 40]].concat();
+        refused("an idle move in the log", gates, &idle_log, Counts { moves: counts.moves + 1, ..*counts });
+        refused("a move count invented", gates, log, Counts { moves: counts.moves + 1, ..*counts });
+        refused("a move count too low", gates, log, Counts { moves: counts.moves - 1, ..*counts });
+        refused("no circuit at all", &[], log, Counts { gates: 0, ..*counts });
+        let mut swapped = log.clone();
+        swapped.rotate_left(40);
+        refused("moves in another order", gates, &swapped, *counts);
+        refused("T in", gates, log, Counts { t_in: counts.t_in + 1, ..*counts });
+        refused("odd set size", gates, log, Counts { odd_size: counts.odd_size + 1, ..*counts });
+        refused("T out", gates, log, Counts { t_out: counts.t_out - 1, ..*counts });
+        refused("gates", gates, log, Counts { gates: counts.gates - 1, ..*counts });
+        let longer = [&gates[..], &[2, 0, 0, 6, 0, 0]].concat();
+        let more = Counts { t_out: counts.t_out + 2, gates: counts.gates + 2, ..*counts };
+        refused("T gates beyond one for each odd parity", &longer, log, more);
+    }
+}
+
+/// The two misreadings that lose an S or a controlled Z show in the phases.
+#[test]
+fn a_lost_s_is_noticed() {
+    let mut random = Random::new(126);
+    let mut lost = 0;
+    for _ in 0..40 {
+        let (n, list, right) = with_moves(&mut random);
+        let mut table = read(n, &right.gates);
+        let Some(p) = (0..256).find(|p| table.weights[*p] > 1) else { continue };
+        table.weights[p] %= 2;
+        let gates = fast::write(n, &table.weights, &table.rows);
+        let counts = Counts { gates: gates.len() / GATE_BYTES, ..right.counts };
+        assert!(check_trim(n, &list, &gates, &right.log, &counts).is_err(), "an even rest was lost, n = {n}");
+        lost += 1;
+    }
+    assert!(lost > 0, "an even rest came up");
+}
