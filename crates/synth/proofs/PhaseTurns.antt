@@ -82,9 +82,15 @@ pub parity-none : (g : List ℕ) (k n p v : ℕ) → v ≡ 0 → Stored g g k k 
 unfolding writeParity
 parity-none g k n p v e = rw e (stored-none g k)
 
--- p's other wires as the code computes them, with a shifted one
-abbrev pub othersCode : ℕ → ℕ
+-- p's other wires as the code computes them, with a shifted one; its CNOTs, and its spelling
+abbrev othersCode : ℕ → ℕ
 othersCode p = bitXor p (1 * 2 ^ lowest maxWires p % 2 ^ maxWires)
+
+abbrev pub bringing : ℕ → ℕ → List Gate
+bringing n p = cnots n (othersCode p) (lowest maxWires p)
+
+abbrev pub spelling-of : ℕ → ℕ → List Gate
+spelling-of p v = spell v (lowest maxWires p)
 
 parity-parts : (n p v q : ℕ) → v ≢ 0 → q ≡ others maxWires p → writeParity maxWires n p v ≡ cnots n q (lowest maxWires p) ++ (spell v (lowest maxWires p) ++ cnots n q (lowest maxWires p))
 unfolding writeParity around
@@ -96,32 +102,31 @@ module _ (g : List ℕ) (k n p v : ℕ) (some : v ≢ 0) (off : p ≡ 0 → v �
   pub lowest-below : lowest maxWires p < maxWires
   lowest-below = let ne : p ≢ 0 = λ e. some (off e) in bit-inside maxWires p (lowest maxWires p) less (bit-lowest maxWires p ne less)
 
-  parts : writeParity maxWires n p v ≡ cnots n (othersCode p) (lowest maxWires p) ++ (spell v (lowest maxWires p) ++ cnots n (othersCode p) (lowest maxWires p))
+  parts : writeParity maxWires n p v ≡ bringing n p ++ (spelling-of p v ++ bringing n p)
   parts = parity-parts n p v (othersCode p) some (ap (bitXor p) (shifted maxWires (lowest maxWires p) lowest-below))
 
   module _ (r : Room g k (writeParity maxWires n p v)) where
-    whole : Room g k (cnots n (othersCode p) (lowest maxWires p) ++ (spell v (lowest maxWires p) ++ cnots n (othersCode p) (lowest maxWires p)))
+    whole : Room g k (bringing n p ++ (spelling-of p v ++ bringing n p))
     whole = subst (λ (gs : List Gate). Room g k gs) parts r
 
-    pub parity-room : Room g k (cnots n (othersCode p) (lowest maxWires p))
-    parity-room = room-first g k (cnots n (othersCode p) (lowest maxWires p)) (spell v (lowest maxWires p) ++ cnots n (othersCode p) (lowest maxWires p)) whole
+    pub parity-room : Room g k (bringing n p)
+    parity-room = room-first g k (bringing n p) (spelling-of p v ++ bringing n p) whole
 
-    module _ (g₁ : List ℕ) (k₁ : ℕ) (a : Stored g g₁ k k₁ (cnots n (othersCode p) (lowest maxWires p))) where
-      rest : Room g₁ k₁ (spell v (lowest maxWires p) ++ cnots n (othersCode p) (lowest maxWires p))
-      rest = room-then g g₁ k k₁ (cnots n (othersCode p) (lowest maxWires p)) (spell v (lowest maxWires p) ++ cnots n (othersCode p) (lowest maxWires p)) a whole
+    module _ (g₁ : List ℕ) (k₁ : ℕ) (a : Stored g g₁ k k₁ (bringing n p)) where
+      rest : Room g₁ k₁ (spelling-of p v ++ bringing n p)
+      rest = room-then g g₁ k k₁ (bringing n p) (spelling-of p v ++ bringing n p) a whole
 
-      pub spell-room : Room g₁ k₁ (spell v (lowest maxWires p))
-      spell-room = room-first g₁ k₁ (spell v (lowest maxWires p)) (cnots n (othersCode p) (lowest maxWires p)) rest
+      pub spell-room : Room g₁ k₁ (spelling-of p v)
+      spell-room = room-first g₁ k₁ (spelling-of p v) (bringing n p) rest
 
-      module _ (g₂ : List ℕ) (k₂ : ℕ) (b : Stored g₁ g₂ k₁ k₂ (spell v (lowest maxWires p))) where
-        pub undo-room : Room g₂ k₂ (cnots n (othersCode p) (lowest maxWires p))
-        undo-room = room-then g₁ g₂ k₁ k₂ (spell v (lowest maxWires p)) (cnots n (othersCode p) (lowest maxWires p)) b rest
+      module _ (g₂ : List ℕ) (k₂ : ℕ) (b : Stored g₁ g₂ k₁ k₂ (spelling-of p v)) where
+        pub undo-room : Room g₂ k₂ (bringing n p)
+        undo-room = room-then g₁ g₂ k₁ k₂ (spelling-of p v) (bringing n p) b rest
 
-        pub parity-stored : (g₃ : List ℕ) (k₃ : ℕ) → Stored g₂ g₃ k₂ k₃ (cnots n (othersCode p) (lowest maxWires p)) → Stored g g₃ k k₃ (writeParity maxWires n p v)
+        pub parity-stored : (g₃ : List ℕ) (k₃ : ℕ) → Stored g₂ g₃ k₂ k₃ (bringing n p) → Stored g g₃ k k₃ (writeParity maxWires n p v)
         parity-stored g₃ k₃ d =
-            let xs : List Gate = cnots n (othersCode p) (lowest maxWires p) in
-            let ys : List Gate = spell v (lowest maxWires p) in
-            rw parts (stored-then g g₁ k k₁ xs (ys ++ xs) a g₃ k₃ (stored-then g₁ g₂ k₁ k₂ ys xs b g₃ k₃ d))
+            rw parts
+            (stored-then g g₁ k k₁ (bringing n p) (spelling-of p v ++ bringing n p) a g₃ k₃ (stored-then g₁ g₂ k₁ k₂ (spelling-of p v) (bringing n p) b g₃ k₃ d))
 
 -- ---- all parities
 

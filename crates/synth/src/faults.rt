@@ -4,6 +4,7 @@ ghost use Prim.Native.Nat.{_-_, _^_, _≤_};
 ghost use lib.ListN.{length};
 ghost use Rattle.circuit.specs.Limits.{maxWires, rowBytes};
 ghost use Rattle.synth.specs.Faults.{roomFault, rowMost, beyondFault, cancelFault, rowsFault, writeFault};
+use crate::masks::copied;
 use crate::masks::pivot_of;
 use crate::masks::row_step;
 use circuit::faults::OUTPUT;
@@ -19,7 +20,9 @@ pub const ROW_RULE: u8 = 7;
 pub fn write_fault(n: usize, weights: &[u8], rows: &[u8], gates: usize) -> u8
     ensures { λ r. ⌜ r ≡ writeFault n (now (weights .entry)) (now (rows .entry)) gates ⌝ }
 {
-    let fault = call_fault(n, room_fault(gates), weights_fault(n, weights));
+    let lent = room_fault(gates);
+    let table = weights_fault(n, weights);
+    let fault = call_fault(n, lent, table);
     if fault != 0 {
         return fault;
     }
@@ -89,16 +92,4 @@ fn cancel_fault(n: usize, rows: [Parity; ROW_BYTES]) -> u8
         masks = s.masks;
     }
     0
-}
-
-// Eight lent rows, as a value. Internal.
-pub fn copied(rows: &[u8]) -> [Parity; ROW_BYTES]
-    requires { ⌜ length (now rows) ≡ rowBytes ⌝ }
-    ensures { λ r. ⌜ r ≡ now (rows .entry) ⌝ }
-{
-    let mut r = [0 as Parity; ROW_BYTES];
-    for i in 0..ROW_BYTES {
-        r[i] = rows[i];
-    }
-    r
 }

@@ -10,8 +10,8 @@ pub mod rows;
 pub mod spelling;
 pub mod storing;
 
-use faults::copied;
 use faults::write_fault;
+use masks::copied;
 use phases::write_phases;
 use rows::write_rows;
 

@@ -8,6 +8,18 @@ ghost use Rattle.synth.specs.Writing.{recount, pivot, lack, surplus, nex
 use circuit::limits::Parity;
 use circuit::limits::ROW_BYTES;
 
+// The masks start as the rows: eight lent bytes, as a value.
+pub fn copied(rows: &[u8]) -> [Parity; ROW_BYTES]
+    requires { ⌜ length (now rows) ≡ rowBytes ⌝ }
+    ensures { λ r. ⌜ r ≡ now (rows .entry) ⌝ }
+{
+    let mut masks = [0 as Parity; ROW_BYTES];
+    for i in 0..ROW_BYTES {
+        masks[i] = rows[i];
+    }
+    masks
+}
+
 // One row: CNOTs from the wires of `lack` into the pivot, then from the wires of `surplus` into the row's wire; the masks after them.
 pub struct Step {
     pub lack: Parity,
