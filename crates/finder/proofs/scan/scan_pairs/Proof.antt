@@ -92,7 +92,9 @@ same-length-2 : tie.Need-same-length-2 Inv-loop μ-loop Inv-pairs μ-pairs
 same-length-2 c = c .before .before .before .before .offer .kept .1 .1 .1 .0 ∙ ap length (c .before .before .before .before .before .before .before .before .before .loop .inv .1 ∙ c .before .before .before .before .before .before .before .before .before .before .before .pairs .inv .1)
 
 returns-2 : tie.Need-returns-2 Inv-loop μ-loop Inv-pairs μ-pairs
-returns-2 c = rw (c .enum-told .given .1) at (c .before .before .before .before .offer .ensures)
+returns-2 c =
+    let e = c .enum-told .given .1 in
+    rw e (rw e at (c .before .before .before .before .offer .ensures))
 
 pub scan-pairs-spec : {M : Type 1} → statement M
 scan-pairs-spec =
