@@ -1,3 +1,4 @@
 pub mod Listing
 pub mod Scanned
 pub mod FindWays
+pub mod Laws

@@ -7,7 +7,9 @@ use native.Mathlib.Omega.{arith}
 use lib.ListN.{getD, length}
 use Rattle.circuit.specs.Limits.{maxMembers, maxWires}
 use Rattle.kernel.proofs.Answered.{member-in}
-use Rattle.kernel.specs.Answers.{Neither}
+use Rattle.kernel.specs.Answers.{Neither, Offers}
+use Rattle.kernel.specs.declared.Offered.{Offered}
+use Rattle.kernel.specs.declared.Offered.the-variants.{Nothing}
 use Rattle.kernel.specs.Members.{Members, marksOf}
 use Rattle.moves.proofs.Pairs.{none-both}
 use Rattle.moves.specs.Move.{Legal}
@@ -25,6 +27,11 @@ later-larger ys h i (suc j) l k = go (ℕ-discrete i j) (λ g. later-larger ys h
 -- a pair of places that offers nothing
 abbrev pub Passed : List ℕ → ℕ → ℕ → Type 0
 Passed ys i j = Neither (marksOf ys) (getD ys i 0) (getD ys j 0)
+
+-- the kernel offered nothing
+pub pair-passed : (ys : List ℕ) (i j : ℕ) (bytes bytes′ : List ℕ) (r : Offered) → r ≡ Nothing → Offers ys (getD ys i 0) (getD ys j 0) bytes bytes′ r
+    → (bytes′ ≡ bytes) × Passed ys i j
+pair-passed ys i j bytes bytes′ r e o = rw e at o
 
 pub all-passed : (ys : List ℕ) → Members ys → ((i : ℕ) → i < length ys → (j : ℕ) → j < length ys → i < j → Passed ys i j)
     → (z : ℕ) (Y : List ℕ) → Legal maxMembers maxWires (marksOf ys) z Y → ⊥

@@ -20,7 +20,7 @@ pub fn scan_pairs(ys: &[Parity], bytes: &mut [u8]) -> Offered
         for b in a + 1..m {
             let got = offer(ys, ys[a], ys[b], bytes);
             if let Offered::Separating = got {
-                best = Offered::Separating;
+                best = got;
                 break 'pairs;
             }
         }

@@ -1,5 +1,4 @@
 -- By the count of zeros above it.
-use borrow.Author.Needs.{needs}
 use native.Mathlib.Omega.{arith}
 use Rattle.echelon.proofs.Slots.{leading-bit, zeros-lt}
 use Rattle.echelon.proofs.leading.Statement.{statement}

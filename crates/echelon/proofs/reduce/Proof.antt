@@ -1,7 +1,8 @@
 -- What is left of v is below 2 ^ productBits, and the slots taken off it give the rest; it falls at each turn.
-use borrow.Author.Needs.{needs}
-use native.Mathlib.Omega.{arith}
+use mathlib.Core.Path.{_≡_}
 use Prim.Native.Nat.{_<_, _^_}
+use native.Mathlib.Omega.{arith}
+use borrow.Author.Needs.{needs}
 use denote.Ref.{now}
 use Rattle.circuit.specs.Limits.{productBits}
 use Rattle.gf2.proofs.Echelon.{reached-start, reached-step}
@@ -62,7 +63,10 @@ loop-again c =
     )
 
 returns-2 : tie.Need-returns-2 Inv-loop μ-loop
-returns-2 c = rw (c .loop-test .left) at (c .before .loop .inv .1)
+returns-2 c =
+    let at = c .before .loop in
+    let e : at .rest ≡ 0 = omega arith in
+    rw e at (at .inv .1)
 
 pub reduce-spec : {M : Type 1} → statement M
 reduce-spec =

@@ -7,7 +7,7 @@ use borrow.Author.Count.{below-more, below-none}
 use borrow.Author.Needs.{needs}
 use denote.Ref.{now}
 use Rattle.kernel.specs.declared.Offered.the-variants.{Nothing}
-use Rattle.finder.proofs.Scanned.{Passed, all-passed, later-larger}
+use Rattle.finder.proofs.Scanned.{Passed, all-passed, later-larger, pair-passed}
 use Rattle.finder.proofs.scan.scan_pairs.Statement.{statement}
 use Rattle.finder.proofs.scan.scan_pairs.Tie as tie
 
@@ -64,7 +64,9 @@ loop-less c = search needs
 loop-again : tie.Need-loop-again Inv-loop μ-loop Inv-pairs μ-pairs
 loop-again c =
     let at = c .before .before .before .before .before .before .before .before .before .loop in
-    let t = rw (c .enum-told2 .given .1) at (c .before .before .before .before .offer .ensures) in
+    let o = c .before .before .before .before .offer in
+    let ys = now (c .before .before .before .before .before .before .before .before .before .before .before .before .before .before .args .ys) in
+    let t = pair-passed ys (c .before .before .before .before .before .before .before .before .before .before .before .pairs .a) (at .b) (at .bytes) (o .last .1 .1 .1 .0) (o .result) (c .enum-told2 .given .1) (o .ensures) in
     (at .inv .0, t .0 ∙ at .inv .1, omega arith, omega arith, below-more _ _ (at .inv .4) (λ g. t .1))
 
 add-a : tie.Need-add-a Inv-loop μ-loop Inv-pairs μ-pairs
@@ -92,7 +94,9 @@ same-length-2 : tie.Need-same-length-2 Inv-loop μ-loop Inv-pairs μ-pairs
 same-length-2 c = c .before .before .before .before .offer .kept .1 .1 .1 .0 ∙ ap length (c .before .before .before .before .before .before .before .before .before .loop .inv .1 ∙ c .before .before .before .before .before .before .before .before .before .before .before .pairs .inv .1)
 
 returns-2 : tie.Need-returns-2 Inv-loop μ-loop Inv-pairs μ-pairs
-returns-2 c = rw (c .enum-told .given .1) at (c .before .before .before .before .offer .ensures)
+returns-2 c =
+    let e = c .enum-told .given .1 in
+    rw e (rw e at (c .before .before .before .before .offer .ensures))
 
 pub scan-pairs-spec : {M : Type 1} → statement M
 scan-pairs-spec =
