@@ -10,11 +10,8 @@ use Rattle.circuit.proofs.Bytes.{byteGate, gates-step, gates-tail, gatesFrom}
 use Rattle.circuit.specs.Limits.{gateBytes}
 use Rattle.text.proofs.Storing.{sets-append, sets-placed}
 use Rattle.text.specs.Limits.{gateLineBytes}
-use Rattle.text.specs.Placed.{Writes, placed}
+use Rattle.text.specs.Placed.{Writes}
 use Rattle.text.specs.Written.{gateLine, gateLines}
-
-pub length-placed : (was : List ℕ) (at : ℕ) (bytes : List ℕ) → at + length bytes ≤ length was → length (placed was at bytes) ≡ length was
-length-placed was at bytes h = ap length (sym (sets-placed was at bytes h)) ∙ length-sets was at bytes
 
 module _ (was : List ℕ) (at : ℕ) (u mid : List ℕ) (m : ℕ) (w : Writes was at u mid m) (fits : at + length u ≤ length was) where
   pub writes-sets : mid ≡ sets was at u

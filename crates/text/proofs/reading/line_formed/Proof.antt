@@ -21,7 +21,7 @@ sub-if1 : tie.Need-sub-if1 Inv-loop μ-loop
 sub-if1 c = search needs
 
 returns : tie.Need-returns Inv-loop μ-loop
-returns c = too-short (now (c .before .before .args .text)) (c .before .before .args .at) (c .before .before .args .digits) (c .if1 .taken)
+returns c = too-short (now (c .before .before .args .text)) (c .before .before .args .at) (c .before .before .args .digits) (omega arith)
 
 loop-holds : tie.Need-loop-holds Inv-loop μ-loop
 loop-holds c = (search needs, search needs, digits-begin (now (c .before .before .args .text)) (c .before .before .args .at) (c .before .before .args .digits))
