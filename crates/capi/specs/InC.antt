@@ -1,8 +1,15 @@
--- What an exported function promises: the entry's own promise, its reply told as document 01's number and place.
+-- What an exported function promises: the entry's own promise, its reply told as document 01's number and place and the counts beside them.
 use mathlib.Core.Path.{_≡_}
 use Prim.Native.Nat.{ℕ}
 use Rattle.circuit.specs.Entry.{numberOf, placeOf}
 use Rattle.circuit.specs.declared.Reply.{Reply}
+use Rattle.finder.specs.declared.Finding as finding
+use Rattle.finder.specs.declared.Finding.the-variants as find
+use Rattle.synth.specs.declared.Written as writing
+use Rattle.synth.specs.declared.Written.the-variants as write
+use Rattle.trimmer.specs.declared.Counts.{Counts}
+use Rattle.trimmer.specs.declared.TrimReply as trimming
+use Rattle.trimmer.specs.declared.TrimReply.the-variants as trim
 
 -- the entry replied as its promise says, and these are the reply's number, 0 for none, and place
 pub record InC (Promise : Reply → Type 0) (number place : ℕ) : Type 0 where
@@ -10,3 +17,73 @@ pub record InC (Promise : Reply → Type 0) (number place : ℕ) : Type 0 where
   pub promise : Promise reply
   pub number-is : number ≡ numberOf reply
   pub place-is : place ≡ placeOf reply
+
+-- ---- find: 1 where a move was found
+
+abbrev pub findNumber : finding.Finding → ℕ
+findNumber find.Found = 0
+findNumber find.Nothing = 0
+findNumber (find.Refused number place) = number
+
+abbrev pub findPlace : finding.Finding → ℕ
+findPlace find.Found = 0
+findPlace find.Nothing = 0
+findPlace (find.Refused number place) = place
+
+abbrev pub foundOf : finding.Finding → ℕ
+foundOf find.Found = 1
+foundOf find.Nothing = 0
+foundOf (find.Refused number place) = 0
+
+pub record FindInC (Promise : finding.Finding → Type 0) (number place found : ℕ) : Type 0 where
+  pub reply : finding.Finding
+  pub promise : Promise reply
+  pub number-is : number ≡ findNumber reply
+  pub place-is : place ≡ findPlace reply
+  pub found-is : found ≡ foundOf reply
+
+-- ---- write: the number of gates
+
+abbrev pub writeNumber : writing.Written → ℕ
+writeNumber (write.Done count) = 0
+writeNumber (write.Refused number place) = number
+
+abbrev pub writePlace : writing.Written → ℕ
+writePlace (write.Done count) = 0
+writePlace (write.Refused number place) = place
+
+abbrev pub writtenCount : writing.Written → ℕ
+writtenCount (write.Done count) = count
+writtenCount (write.Refused number place) = 0
+
+pub record WriteInC (Promise : writing.Written → Type 0) (number place gates : ℕ) : Type 0 where
+  pub reply : writing.Written
+  pub promise : Promise reply
+  pub number-is : number ≡ writeNumber reply
+  pub place-is : place ≡ writePlace reply
+  pub gates-is : gates ≡ writtenCount reply
+
+-- ---- trim: the counts, all 0 where it refused
+
+abbrev pub trimNumber : trimming.TrimReply → ℕ
+trimNumber (trim.Done counts) = 0
+trimNumber (trim.Refused number place) = number
+
+abbrev pub trimPlace : trimming.TrimReply → ℕ
+trimPlace (trim.Done counts) = 0
+trimPlace (trim.Refused number place) = place
+
+abbrev pub countsOf : trimming.TrimReply → Counts
+countsOf (trim.Done counts) = counts
+countsOf (trim.Refused number place) = record { tin = 0; odd = 0; tout = 0; moves = 0; gates = 0 }
+
+pub record TrimInC (Promise : trimming.TrimReply → Type 0) (number place tin odd tout moves gates : ℕ) : Type 0 where
+  pub reply : trimming.TrimReply
+  pub promise : Promise reply
+  pub number-is : number ≡ trimNumber reply
+  pub place-is : place ≡ trimPlace reply
+  pub tin-is : tin ≡ countsOf reply .tin
+  pub odd-is : odd ≡ countsOf reply .odd
+  pub tout-is : tout ≡ countsOf reply .tout
+  pub moves-is : moves ≡ countsOf reply .moves
+  pub gates-is : gates ≡ countsOf reply .gates

@@ -3,14 +3,53 @@
 ghost use mathlib.Core.Path.{_≡_};
 ghost use Rattle.circuit.specs.Entry.{numberOf, placeOf, ReadList};
 ghost use Rattle.weights.specs.Entry.{OddSetOf, CoefficientsOf, NewWeightsOf};
-ghost use Rattle.capi.specs.InC.{InC};
+ghost use Rattle.carry.specs.Entry.{CarriesOut};
+ghost use Rattle.circuit.specs.Limits.{moveBytes};
+ghost use Rattle.finder.specs.Entry.{FindMove};
+ghost use Rattle.moves.specs.Log.{moveAt};
+ghost use Rattle.synth.specs.Entry.{WriteList};
+ghost use Rattle.trimmer.specs.Entry.{TrimList};
+ghost use Rattle.capi.specs.InC.{InC, FindInC, WriteInC, TrimInC, foundOf, findNumber, findPlace, writtenCount, writeNumber, writePlace, trimNumber, trimPlace, countsOf};
 use circuit::Reply;
+use finder::Finding;
+use synth::Written;
+use trimmer::{Counts, TrimReply};
 
 #[repr(C)]
 pub struct SulmedraReply {
     pub number: u64,
     pub place: u64,
 }
+
+// A reply of the finder: found is 1 where a move was written.
+#[repr(C)]
+pub struct SulmedraFound {
+    pub number: u64,
+    pub place: u64,
+    pub found: u64,
+}
+
+// A reply of the writer, with the number of gates.
+#[repr(C)]
+pub struct SulmedraWritten {
+    pub number: u64,
+    pub place: u64,
+    pub gates: u64,
+}
+
+// A reply of the trim, with its counts.
+#[repr(C)]
+pub struct SulmedraTrimmed {
+    pub number: u64,
+    pub place: u64,
+    pub tin: u64,
+    pub odd: u64,
+    pub tout: u64,
+    pub moves: u64,
+    pub gates: u64,
+}
+
+#[repr(C)]
 
 // `circuit::read`.
 #[no_mangle]
@@ -58,6 +97,102 @@ pub extern "C" fn sulmedra_new_weights(
     ensures { λ r. ⌜ InC (NewWeightsOf n (now (weights .entry)) (now (marks .entry)) (now (out .entry)) (now (out .exit))) (r .number) (r .place) ⌝ }
 {
     in_c(weights::new_weights(n, weights, marks, out))
+}
+
+// `carry::carry_out`.
+#[no_mangle]
+pub extern "C" fn sulmedra_carry_out(n: usize, marks: &mut [u8], forty: &[u8]) -> SulmedraReply
+    ensures { λ r. ⌜ InC (CarriesOut n (now (marks .entry)) (now (forty .entry)) (now (marks .exit))) (r .number) (r .place) ⌝ }
+{
+    in_c(carry::carry_out(n, marks, forty))
+}
+
+// `finder::find`.
+#[no_mangle]
+pub extern "C" fn sulmedra_find(n: usize, marks: &[u8], forty: &mut [u8]) -> SulmedraFound
+    ensures { λ r. ⌜ FindInC (FindMove n (now (marks .entry)) (now (forty .entry)) (now (forty .exit))) (r .number) (r .place) (r .found) ⌝ }
+{
+    found_in_c(finder::find(n, marks, forty))
+}
+
+// `synth::write`.
+#[no_mangle]
+pub extern "C" fn sulmedra_write(n: usize, weights: &[u8], rows: &[u8], gates: &mut [u8]) -> SulmedraWritten
+    ensures { λ r. ⌜ WriteInC (WriteList n (now (weights .entry)) (now (rows .entry)) (now (gates .entry)) (now (gates .exit))) (r .number) (r .place) (r .gates) ⌝ }
+{
+    written_in_c(synth::write(n, weights, rows, gates))
+}
+
+// `trimmer::trim`.
+#[no_mangle]
+pub extern "C" fn sulmedra_trim(n: usize, gates: &[u8], out: &mut [u8], log: &mut [u8]) -> SulmedraTrimmed
+    ensures { λ r. ⌜ TrimInC (TrimList n (now (gates .entry)) (now (out .entry)) (now (log .entry)) (now (out .exit)) (now (log .exit))) (r .number) (r .place) (r .tin) (r .odd) (r .tout) (r .moves) (r .gates) ⌝ }
+{
+    trimmed_in_c(trimmer::trim(n, gates, out, log))
+}
+
+fn found_in_c(reply: Finding) -> SulmedraFound
+    ensures { λ r. ⌜ (r .number ≡ findNumber reply) × (r .place ≡ findPlace reply) × (r .found ≡ foundOf reply) ⌝ }
+{
+    match reply {
+        Finding::Found => SulmedraFound {
+            number: 0,
+            place: 0,
+            found: 1,
+        },
+        Finding::Nothing => SulmedraFound {
+            number: 0,
+            place: 0,
+            found: 0,
+        },
+        Finding::Refused { number, place } => SulmedraFound {
+            number: number as u64,
+            place: place as u64,
+            found: 0,
+        },
+    }
+}
+
+fn written_in_c(reply: Written) -> SulmedraWritten
+    ensures { λ r. ⌜ (r .number ≡ writeNumber reply) × (r .place ≡ writePlace reply) × (r .gates ≡ writtenCount reply) ⌝ }
+{
+    match reply {
+        Written::Done { count } => SulmedraWritten {
+            number: 0,
+            place: 0,
+            gates: count as u64,
+        },
+        Written::Refused { number, place } => SulmedraWritten {
+            number: number as u64,
+            place: place as u64,
+            gates: 0,
+        },
+    }
+}
+
+fn trimmed_in_c(reply: TrimReply) -> SulmedraTrimmed
+    ensures { λ r. ⌜ (r .number ≡ trimNumber reply) × (r .place ≡ trimPlace reply) × (r .tin ≡ countsOf reply .tin) × (r .odd ≡ countsOf reply .odd) × (r .tout ≡ countsOf reply .tout) × (r .moves ≡ countsOf reply .moves) × (r .gates ≡ countsOf reply .gates) ⌝ }
+{
+    match reply {
+        TrimReply::Done(counts) => SulmedraTrimmed {
+            number: 0,
+            place: 0,
+            tin: counts.tin as u64,
+            odd: counts.odd as u64,
+            tout: counts.tout as u64,
+            moves: counts.moves as u64,
+            gates: counts.gates as u64,
+        },
+        TrimReply::Refused { number, place } => SulmedraTrimmed {
+            number: number as u64,
+            place: place as u64,
+            tin: 0,
+            odd: 0,
+            tout: 0,
+            moves: 0,
+            gates: 0,
+        },
+    }
 }
 
 // A reply as two numbers.
