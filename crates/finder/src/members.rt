@@ -7,7 +7,7 @@ ghost use Rattle.finder.specs.Search.{Gathered};
 use circuit::limits::Parity;
 use circuit::limits::WEIGHT_BYTES;
 
-// Lists the members in ascending order, and gives their number.
+// Lists the members in ascending order, and gives their number. Internal: the caller has found the marks sound.
 pub fn gather(marks: &[u8], list: &mut [Parity; WEIGHT_BYTES]) -> usize
     requires { ⌜ SoundMarks weightBytes maxWires (now marks) ⌝ }
     requires { ⌜ length (now list) ≡ weightBytes ⌝ }

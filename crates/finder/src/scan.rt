@@ -1,4 +1,4 @@
-// The scan over pairs of columns.
+// The scan over pairs of columns. A column is known by its place in the list of members.
 ghost use mathlib.Core.Path.{_≡_};
 ghost use lib.ListN.{length};
 ghost use Rattle.circuit.specs.Limits.{moveBytes};
@@ -8,7 +8,7 @@ use circuit::limits::Parity;
 use kernel::Offered;
 use kernel::offer;
 
-// Looks at pairs of columns a < b, and leaves both loops at the first that serves.
+// Looks at pairs of columns a < b, and leaves both loops at the first that serves. Internal: the caller has gathered the members.
 pub fn scan_pairs(ys: &[Parity], bytes: &mut [u8]) -> Offered
     requires { ⌜ Members (now ys) ⌝ }
     requires { ⌜ length (now bytes) ≡ moveBytes ⌝ }

@@ -8,6 +8,7 @@ use circuit::limits::Parity;
 use columns::column;
 use echelon::insert;
 
+// The columns of the members but a and b, for z and its wire t.
 pub fn build(
     ys: &[Parity],
     a: Parity,

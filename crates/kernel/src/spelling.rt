@@ -1,18 +1,23 @@
 // From a mask of slots to the bytes of a move: the members that it names, and a, in ascending order.
 ghost use mathlib.Core.Path.{_≡_};
-ghost use Prim.Native.Nat.{_<_, _≤_, ℕ};
-ghost use lib.ListN.{getD, length};
+ghost use Prim.Native.Nat.{_<_};
+ghost use lib.ListN.{length};
 ghost use Rattle.circuit.specs.Limits.{maxMembers, moveBytes, productBits, weightBytes};
 ghost use Rattle.moves.specs.CarryOut.{flip};
 ghost use Rattle.moves.specs.Log.{asBytes};
 ghost use Rattle.moves.specs.Pair.{spelled};
 ghost use Rattle.kernel.specs.Spelling.{Few, SpelledMarks, listedBytes};
 use circuit::copy_into;
+use circuit::limits::MAX_MEMBERS;
 use circuit::limits::MOVE_BYTES;
 use circuit::limits::PRODUCT_BITS;
 use circuit::limits::Parity;
 use circuit::limits::WEIGHT_BYTES;
 
+// What stands before Y in the bytes of a move: z and the number in Y.
+const HEAD: usize = MOVE_BYTES - MAX_MEMBERS;
+
+// Writes the move of z with the set that the mask names and a.
 pub fn write_move(z: Parity, a: Parity, m: u64, member: &[Parity; PRODUCT_BITS], bytes: &mut [u8])
     requires { ⌜ length (now bytes) ≡ moveBytes ⌝ }
     ensures { λ _. ⌜ now (bytes .exit) ≡ asBytes maxMembers z (spelled weightBytes (now (member .entry)) m productBits a) ⌝ }
@@ -39,6 +44,7 @@ fn spell(m: u64, member: &[Parity; PRODUCT_BITS]) -> [u8; WEIGHT_BYTES]
     set
 }
 
+// The mark of p, flipped: so it is of no matter whether members differ.
 fn toggle(set: &mut [u8; WEIGHT_BYTES], p: Parity)
     ensures { λ _. ⌜ (now (set .exit) ≡ flip (now (set .entry)) p) × (p < weightBytes) ⌝ }
 {
@@ -59,7 +65,7 @@ fn list(z: Parity, set: &[u8]) -> [u8; MOVE_BYTES]
         p += 1;
         if set[y] == 1 {
             let k = bytes[1] as usize;
-            bytes[k + 2] = y as u8;
+            bytes[k + HEAD] = y as Parity;
             bytes[1] = (k + 1) as u8;
         }
     }
