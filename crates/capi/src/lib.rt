@@ -49,7 +49,12 @@ pub extern "C" fn sulmedra_coefficients(
 
 // `weights::new_weights`.
 #[no_mangle]
-pub extern "C" fn sulmedra_new_weights(n: usize, weights: &[u8], marks: &[u8], out: &mut [u8]) -> SulmedraReply
+pub extern "C" fn sulmedra_new_weights(
+    n: usize,
+    weights: &[u8],
+    marks: &[u8],
+    out: &mut [u8],
+) -> SulmedraReply
     ensures { λ r. ⌜ InC (NewWeightsOf n (now (weights .entry)) (now (marks .entry)) (now (out .entry)) (now (out .exit))) (r .number) (r .place) ⌝ }
 {
     in_c(weights::new_weights(n, weights, marks, out))
