@@ -3,8 +3,10 @@
 ghost use mathlib.Core.Path.{_≡_};
 ghost use Rattle.circuit.specs.Entry.{numberOf, placeOf, ReadList};
 ghost use Rattle.weights.specs.Entry.{OddSetOf, CoefficientsOf, NewWeightsOf};
-ghost use Rattle.capi.specs.InC.{InC};
+ghost use Rattle.synth.specs.Entry.{writtenNumber, writtenPlace, writtenCount, WriteList};
+ghost use Rattle.capi.specs.InC.{InC, WrittenInC};
 use circuit::Reply;
+use synth::Written;
 
 #[repr(C)]
 pub struct SulmedraReply {
@@ -58,6 +60,44 @@ pub extern "C" fn sulmedra_new_weights(
     ensures { λ r. ⌜ InC (NewWeightsOf n (now (weights .entry)) (now (marks .entry)) (now (out .entry)) (now (out .exit))) (r .number) (r .place) ⌝ }
 {
     in_c(weights::new_weights(n, weights, marks, out))
+}
+
+// The reply of `synth::write`: also the number of gates written, 0 where none are.
+#[repr(C)]
+pub struct SulmedraWritten {
+    pub number: u64,
+    pub place: u64,
+    pub gates: u64,
+}
+
+// `synth::write`.
+#[no_mangle]
+pub extern "C" fn sulmedra_write(
+    n: usize,
+    weights: &[u8],
+    rows: &[u8],
+    gates: &mut [u8],
+) -> SulmedraWritten
+    ensures { λ r. ⌜ WrittenInC (WriteList n (now (weights .entry)) (now (rows .entry)) (now (gates .entry)) (now (gates .exit))) (r .number) (r .place) (r .gates) ⌝ }
+{
+    written_in_c(synth::write(n, weights, rows, gates))
+}
+
+fn written_in_c(reply: Written) -> SulmedraWritten
+    ensures { λ r. ⌜ (r .number ≡ writtenNumber reply) × (r .place ≡ writtenPlace reply) × (r .gates ≡ writtenCount reply) ⌝ }
+{
+    match reply {
+        Written::Done { count } => SulmedraWritten {
+            number: 0,
+            place: 0,
+            gates: count as u64,
+        },
+        Written::Refused { number, place } => SulmedraWritten {
+            number: number as u64,
+            place: place as u64,
+            gates: 0,
+        },
+    }
 }
 
 // A reply as two numbers.
