@@ -22,6 +22,12 @@ typedef struct {
     uint64_t place;  /* the index of the faulty gate, from 0, for faults 3, 4 and 5; else 0 */
 } sulmedra_reply;
 
+typedef struct {
+    uint64_t number; /* 0, or the number of the fault */
+    uint64_t place;  /* 0 */
+    uint64_t gates;  /* the number of gates written, 0 where none are */
+} sulmedra_written;
+
 /* Reads a list of gates on n wires into 256 weights and 8 rows.
  *   gates    three bytes each: kind, a, b; at most 12,288 bytes, any bytes
  *   weights  256 bytes, written
@@ -53,6 +59,15 @@ sulmedra_reply sulmedra_coefficients(size_t n, const uint8_t *weights, size_t we
  * Checks, in order: 1, 8, 6 (weights, then marks). */
 sulmedra_reply sulmedra_new_weights(size_t n, const uint8_t *weights, size_t weights_len, const uint8_t *marks, size_t marks_len,
                                     uint8_t *out, size_t out_len);
+
+/* Writes gates on n wires for weights and rows, from the first byte on: reading them gives exactly these weights and rows. At most
+ * n * 2^n + n * n gates; every byte after the last gate is as it was. Which CNOTs are used, and the order of parities, are free.
+ *   weights  256 bytes, each 0 to 7, 0 at parity 0 and from 2^n up
+ *   rows     8 bytes: row i below 2^n, 0 from row n up, invertible
+ *   gates    at least 6,336 bytes, written
+ * Checks, in order: 1 wire count, 8 lent output, 6 weights, 7 rows. */
+sulmedra_written sulmedra_write(size_t n, const uint8_t *weights, size_t weights_len, const uint8_t *rows, size_t rows_len,
+                                uint8_t *gates, size_t gates_len);
 
 #ifdef __cplusplus
 }

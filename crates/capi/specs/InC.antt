@@ -7,6 +7,8 @@ use Rattle.finder.specs.declared.Finding as finding
 use Rattle.finder.specs.declared.Finding.the-variants as find
 use Rattle.synth.specs.declared.Written as writing
 use Rattle.synth.specs.declared.Written.the-variants as write
+use Rattle.text.specs.declared.TextReply as texts
+use Rattle.text.specs.declared.TextReply.the-variants as text
 use Rattle.trimmer.specs.declared.Counts.{Counts}
 use Rattle.trimmer.specs.declared.TrimReply as trimming
 use Rattle.trimmer.specs.declared.TrimReply.the-variants as trim
@@ -87,3 +89,29 @@ pub record TrimInC (Promise : trimming.TrimReply → Type 0) (number place tin o
   pub tout-is : tout ≡ countsOf reply .tout
   pub moves-is : moves ≡ countsOf reply .moves
   pub gates-is : gates ≡ countsOf reply .gates
+
+-- ---- read_text: the wire count and the number of gates, 0 where it refused
+
+abbrev pub textNumber : texts.TextReply → ℕ
+textNumber (text.Done n gates) = 0
+textNumber (text.Refused number place) = number
+
+abbrev pub textPlace : texts.TextReply → ℕ
+textPlace (text.Done n gates) = 0
+textPlace (text.Refused number place) = place
+
+abbrev pub textWires : texts.TextReply → ℕ
+textWires (text.Done n gates) = n
+textWires (text.Refused number place) = 0
+
+abbrev pub textGates : texts.TextReply → ℕ
+textGates (text.Done n gates) = gates
+textGates (text.Refused number place) = 0
+
+pub record TextInC (Promise : texts.TextReply → Type 0) (number place wires gates : ℕ) : Type 0 where
+  pub reply : texts.TextReply
+  pub promise : Promise reply
+  pub number-is : number ≡ textNumber reply
+  pub place-is : place ≡ textPlace reply
+  pub wires-is : wires ≡ textWires reply
+  pub gates-is : gates ≡ textGates reply

@@ -8,11 +8,15 @@ ghost use Rattle.circuit.specs.Limits.{moveBytes};
 ghost use Rattle.finder.specs.Entry.{FindMove};
 ghost use Rattle.moves.specs.Log.{moveAt};
 ghost use Rattle.synth.specs.Entry.{WriteList};
+ghost use lib.ListN.{drop, take};
+ghost use Rattle.text.specs.Entry.{ReadText};
 ghost use Rattle.trimmer.specs.Entry.{TrimList};
-ghost use Rattle.capi.specs.InC.{InC, FindInC, WriteInC, TrimInC, foundOf, findNumber, findPlace, writtenCount, writeNumber, writePlace, trimNumber, trimPlace, countsOf};
+ghost use Rattle.capi.specs.InC.{InC, FindInC, WriteInC, TrimInC, foundOf, findNumber, findPlace, writtenCount, writeNumber, writePlace, trimNumber, trimPlace, countsOf, TextInC, textNumber, textPlace, textWires, textGates};
 use circuit::Reply;
+use circuit::limits::MOVE_BYTES;
 use finder::Finding;
 use synth::Written;
+use text::TextReply;
 use trimmer::{Counts, TrimReply};
 
 #[repr(C)]
@@ -49,7 +53,21 @@ pub struct SulmedraTrimmed {
     pub gates: u64,
 }
 
+// A part of a lent log: where it starts, and how long it is.
 #[repr(C)]
+pub struct SulmedraPart {
+    pub start: u64,
+    pub length: u64,
+}
+
+// A reply of the text reader, with the wire count and the number of gates.
+#[repr(C)]
+pub struct SulmedraText {
+    pub number: u64,
+    pub place: u64,
+    pub wires: u64,
+    pub gates: u64,
+}
 
 // `circuit::read`.
 #[no_mangle]
@@ -129,6 +147,51 @@ pub extern "C" fn sulmedra_trim(n: usize, gates: &[u8], out: &mut [u8], log: &mu
     ensures { λ r. ⌜ TrimInC (TrimList n (now (gates .entry)) (now (out .entry)) (now (log .entry)) (now (out .exit)) (now (log .exit))) (r .number) (r .place) (r .tin) (r .odd) (r .tout) (r .moves) (r .gates) ⌝ }
 {
     trimmed_in_c(trimmer::trim(n, gates, out, log))
+}
+
+// `carry::move_at`, as a place in the log.
+#[no_mangle]
+pub extern "C" fn sulmedra_move_at(log: &[u8], k: usize) -> SulmedraPart
+    ensures { λ r. ⌜ take (r .length) (drop (r .start) (now (log .entry))) ≡ moveAt moveBytes (now (log .entry)) k ⌝ }
+{
+    if k < log.len() / MOVE_BYTES {
+        SulmedraPart {
+            start: (MOVE_BYTES * k) as u64,
+            length: MOVE_BYTES as u64,
+        }
+    } else {
+        SulmedraPart {
+            start: 0,
+            length: 0,
+        }
+    }
+}
+
+// `text::read_text`.
+#[no_mangle]
+pub extern "C" fn sulmedra_read_text(text: &[u8], gates: &mut [u8]) -> SulmedraText
+    ensures { λ r. ⌜ TextInC (ReadText (now (text .entry)) (now (gates .entry)) (now (gates .exit))) (r .number) (r .place) (r .wires) (r .gates) ⌝ }
+{
+    text_in_c(text::read_text(text, gates))
+}
+
+fn text_in_c(reply: TextReply) -> SulmedraText
+    ensures { λ r. ⌜ (r .number ≡ textNumber reply) × (r .place ≡ textPlace reply) × (r .wires ≡ textWires reply) × (r .gates ≡ textGates reply) ⌝ }
+{
+    match reply {
+        TextReply::Done { n, gates } => SulmedraText {
+            number: 0,
+            place: 0,
+            wires: n as u64,
+            gates: gates as u64,
+        },
+        TextReply::Refused { number, place } => SulmedraText {
+            number: number as u64,
+            place: place as u64,
+            wires: 0,
+            gates: 0,
+        },
+    }
 }
 
 fn found_in_c(reply: Finding) -> SulmedraFound

@@ -9,7 +9,7 @@ use lib.Bits.{bitXor}
 use lib.Pow.{pow-lt}
 use Rattle.gf2.proofs.Bit.{bit-lt, bit-pow-other, bit-pow-same, bit-xor}
 use Rattle.gf2.proofs.Leading.{bit-top}
-use Rattle.gf2.proofs.Sum.{sum-add, sum-ext, sum-le, sum-scale, sum-swap, sum-xor}
+use Rattle.gf2.proofs.Sum.{sum-add, sum-const, sum-ext, sum-le, sum-scale, sum-swap, sum-xor}
 use Rattle.gf2.specs.Bit.{bit}
 use Rattle.gf2.specs.Sum.{sum}
 
@@ -32,11 +32,6 @@ bits-below (suc k) r m l h = bits-below k r m (go (decLt m (2 ^ (r + k)))) (λ b
     go (no g) = absurd (omega (arith, bit-top (r + k) m (omega arith) (rw (add-suc r k) at l), h (r + k) (omega arith) (omega arith)))
 
 -- ---- how many are set
-
-pub sum-const : (k c : ℕ) → sum k (λ i. c) ≡ k * c
-unfolding sum
-sum-const zero c = omega arith
-sum-const (suc k) c = omega (arith, sum-const k c)
 
 -- at most one for each place
 pub bits-at-most : (n : ℕ) (u : ℕ → ℕ) → ((i : ℕ) → u i < 2) → sum n u ≤ n
