@@ -17,7 +17,8 @@ use circuit::limits::MOVE_BYTES;
 use finder::Finding;
 use synth::Written;
 use text::TextReply;
-use trimmer::{Counts, TrimReply};
+use trimmer::Counts;
+use trimmer::TrimReply;
 
 #[repr(C)]
 pub struct SulmedraReply {
@@ -135,7 +136,12 @@ pub extern "C" fn sulmedra_find(n: usize, marks: &[u8], forty: &mut [u8]) -> Sul
 
 // `synth::write`.
 #[no_mangle]
-pub extern "C" fn sulmedra_write(n: usize, weights: &[u8], rows: &[u8], gates: &mut [u8]) -> SulmedraWritten
+pub extern "C" fn sulmedra_write(
+    n: usize,
+    weights: &[u8],
+    rows: &[u8],
+    gates: &mut [u8],
+) -> SulmedraWritten
     ensures { λ r. ⌜ WriteInC (WriteList n (now (weights .entry)) (now (rows .entry)) (now (gates .entry)) (now (gates .exit))) (r .number) (r .place) (r .gates) ⌝ }
 {
     written_in_c(synth::write(n, weights, rows, gates))
@@ -143,7 +149,12 @@ pub extern "C" fn sulmedra_write(n: usize, weights: &[u8], rows: &[u8], gates: &
 
 // `trimmer::trim`.
 #[no_mangle]
-pub extern "C" fn sulmedra_trim(n: usize, gates: &[u8], out: &mut [u8], log: &mut [u8]) -> SulmedraTrimmed
+pub extern "C" fn sulmedra_trim(
+    n: usize,
+    gates: &[u8],
+    out: &mut [u8],
+    log: &mut [u8],
+) -> SulmedraTrimmed
     ensures { λ r. ⌜ TrimInC (TrimList n (now (gates .entry)) (now (out .entry)) (now (log .entry)) (now (out .exit)) (now (log .exit))) (r .number) (r .place) (r .tin) (r .odd) (r .tout) (r .moves) (r .gates) ⌝ }
 {
     trimmed_in_c(trimmer::trim(n, gates, out, log))
