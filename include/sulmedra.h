@@ -69,6 +69,63 @@ sulmedra_reply sulmedra_new_weights(size_t n, const uint8_t *weights, size_t wei
 sulmedra_written sulmedra_write(size_t n, const uint8_t *weights, size_t weights_len, const uint8_t *rows, size_t rows_len,
                                 uint8_t *gates, size_t gates_len);
 
+/* Carries out a move on the marks of an odd set, where they lie.
+ *   marks  256 bytes, each 0 or 1, 0 at parity 0 and from 2^n up; changed
+ *   move   40 bytes: z, the number in Y, Y ascending, zeros
+ * Checks, in order: 1 wire count, 8 length of the marks, 6 a mark against its rule, 10 no legal move for these marks. */
+sulmedra_reply sulmedra_carry_out(size_t n, uint8_t *marks, size_t marks_len, const uint8_t *move, size_t move_len);
+
+typedef struct {
+    uint64_t number;
+    uint64_t place;
+    uint64_t found; /* 1: a legal move was written; 0: there is none, or a refusal */
+} sulmedra_found;
+
+/* Finds a legal move for the marks of an odd set, or says that there is none; the forty bytes are then untouched.
+ *   marks  256 bytes, as above
+ *   move   40 bytes, written where a move is found
+ * Checks, in order: 1, 8 (move), 6 (marks). */
+sulmedra_found sulmedra_find(size_t n, const uint8_t *marks, size_t marks_len, uint8_t *move, size_t move_len);
+
+typedef struct {
+    uint64_t start;
+    uint64_t length; /* 40, or 0 where the log has fewer than 40 k + 40 bytes */
+} sulmedra_part;
+
+/* The part of a log that move k takes, counted from 0. */
+sulmedra_part sulmedra_move_at(const uint8_t *log, size_t log_len, size_t k);
+
+typedef struct {
+    uint64_t number;
+    uint64_t place;
+    uint64_t t_in;     /* T and T dagger gates of the circuit */
+    uint64_t odd_size; /* members of its odd set */
+    uint64_t t_out;    /* T and T dagger gates written */
+    uint64_t moves;    /* moves in the log */
+    uint64_t gates;    /* gates written */
+} sulmedra_trimmed;
+
+/* Trims a circuit: writes a circuit that sends each basis state to the same state with the same phase, and the moves that lead to it.
+ *   gates  three bytes each, at most 12,288 bytes
+ *   out    at least 6,336 bytes; the gates are written from its start, and what comes after the last is untouched
+ *   log    at least 10,200 bytes; the moves are written from its start, forty bytes each, and what comes after the last is untouched
+ * Checks, in order: 1 wire count, 2 list length, 8 lent outputs, then gate by gate 3, 4, 5. A refusal's counts are 0. */
+sulmedra_trimmed sulmedra_trim(size_t n, const uint8_t *gates, size_t gates_len, uint8_t *out, size_t out_len, uint8_t *log,
+                               size_t log_len);
+
+typedef struct {
+    uint64_t number;
+    uint64_t place; /* the line, from 1, for fault 9; else 0 */
+    uint64_t wires;
+    uint64_t gates;
+} sulmedra_text;
+
+/* Reads the text form: line one is the wire count in two lower-case hex digits, each further line one gate in six.
+ *   text   any bytes
+ *   gates  at least 12,288 bytes; the gates are written from its start, and what comes after the last is untouched
+ * Checks: 8, then lines in order: form (9), on line one the count (1); gate line 4,097 gives 2. The gates are not judged here. */
+sulmedra_text sulmedra_read_text(const uint8_t *text, size_t text_len, uint8_t *gates, size_t gates_len);
+
 #ifdef __cplusplus
 }
 #endif
