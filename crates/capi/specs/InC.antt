@@ -4,9 +4,10 @@ use Prim.Native.Nat.{ℕ}
 use Rattle.circuit.specs.Entry.{numberOf, placeOf}
 use Rattle.circuit.specs.declared.Reply.{Reply}
 use Rattle.finder.specs.declared.Finding as finding
-use Rattle.finder.specs.declared.Finding.the-variants as find
+use Rattle.finder.specs.declared.Finding.the-variants as found
+use Rattle.finder.specs.Entry as find
 use Rattle.synth.specs.declared.Written as writing
-use Rattle.synth.specs.declared.Written.the-variants as write
+use Rattle.synth.specs.Entry.{writtenNumber, writtenPlace, writtenCount}
 use Rattle.text.specs.declared.TextReply as texts
 use Rattle.text.specs.declared.TextReply.the-variants as text
 use Rattle.trimmer.specs.declared.Counts.{Counts}
@@ -22,47 +23,25 @@ pub record InC (Promise : Reply → Type 0) (number place : ℕ) : Type 0 where
 
 -- ---- find: 1 where a move was found
 
-abbrev pub findNumber : finding.Finding → ℕ
-findNumber find.Found = 0
-findNumber find.Nothing = 0
-findNumber (find.Refused number place) = number
-
-abbrev pub findPlace : finding.Finding → ℕ
-findPlace find.Found = 0
-findPlace find.Nothing = 0
-findPlace (find.Refused number place) = place
-
 abbrev pub foundOf : finding.Finding → ℕ
-foundOf find.Found = 1
-foundOf find.Nothing = 0
-foundOf (find.Refused number place) = 0
+foundOf found.Found = 1
+foundOf found.Nothing = 0
+foundOf (found.Refused number place) = 0
 
 pub record FindInC (Promise : finding.Finding → Type 0) (number place found : ℕ) : Type 0 where
   pub reply : finding.Finding
   pub promise : Promise reply
-  pub number-is : number ≡ findNumber reply
-  pub place-is : place ≡ findPlace reply
+  pub number-is : number ≡ find.numberOf reply
+  pub place-is : place ≡ find.placeOf reply
   pub found-is : found ≡ foundOf reply
 
 -- ---- write: the number of gates
 
-abbrev pub writeNumber : writing.Written → ℕ
-writeNumber (write.Done count) = 0
-writeNumber (write.Refused number place) = number
-
-abbrev pub writePlace : writing.Written → ℕ
-writePlace (write.Done count) = 0
-writePlace (write.Refused number place) = place
-
-abbrev pub writtenCount : writing.Written → ℕ
-writtenCount (write.Done count) = count
-writtenCount (write.Refused number place) = 0
-
 pub record WriteInC (Promise : writing.Written → Type 0) (number place gates : ℕ) : Type 0 where
   pub reply : writing.Written
   pub promise : Promise reply
-  pub number-is : number ≡ writeNumber reply
-  pub place-is : place ≡ writePlace reply
+  pub number-is : number ≡ writtenNumber reply
+  pub place-is : place ≡ writtenPlace reply
   pub gates-is : gates ≡ writtenCount reply
 
 -- ---- trim: the counts, all 0 where it refused

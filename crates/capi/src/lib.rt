@@ -6,12 +6,13 @@ ghost use Rattle.weights.specs.Entry.{OddSetOf, CoefficientsOf, NewWeightsOf};
 ghost use Rattle.carry.specs.Entry.{CarriesOut};
 ghost use Rattle.circuit.specs.Limits.{moveBytes};
 ghost use Rattle.finder.specs.Entry.{FindMove};
+ghost use Rattle.finder.specs.Entry as find;
 ghost use Rattle.moves.specs.Log.{moveAt};
-ghost use Rattle.synth.specs.Entry.{WriteList};
+ghost use Rattle.synth.specs.Entry.{WriteList, writtenCount, writtenNumber, writtenPlace};
 ghost use lib.ListN.{drop, take};
 ghost use Rattle.text.specs.Entry.{ReadText};
 ghost use Rattle.trimmer.specs.Entry.{TrimList};
-ghost use Rattle.capi.specs.InC.{InC, FindInC, WriteInC, TrimInC, foundOf, findNumber, findPlace, writtenCount, writeNumber, writePlace, trimNumber, trimPlace, countsOf, TextInC, textNumber, textPlace, textWires, textGates};
+ghost use Rattle.capi.specs.InC.{InC, FindInC, WriteInC, TrimInC, foundOf, trimNumber, trimPlace, countsOf, TextInC, textNumber, textPlace, textWires, textGates};
 use circuit::Reply;
 use circuit::limits::MOVE_BYTES;
 use finder::Finding;
@@ -206,7 +207,7 @@ fn text_in_c(reply: TextReply) -> SulmedraText
 }
 
 fn found_in_c(reply: Finding) -> SulmedraFound
-    ensures { λ r. ⌜ (r .number ≡ findNumber reply) × (r .place ≡ findPlace reply) × (r .found ≡ foundOf reply) ⌝ }
+    ensures { λ r. ⌜ (r .number ≡ find.numberOf reply) × (r .place ≡ find.placeOf reply) × (r .found ≡ foundOf reply) ⌝ }
 {
     match reply {
         Finding::Found => SulmedraFound {
@@ -228,7 +229,7 @@ fn found_in_c(reply: Finding) -> SulmedraFound
 }
 
 fn written_in_c(reply: Written) -> SulmedraWritten
-    ensures { λ r. ⌜ (r .number ≡ writeNumber reply) × (r .place ≡ writePlace reply) × (r .gates ≡ writtenCount reply) ⌝ }
+    ensures { λ r. ⌜ (r .number ≡ writtenNumber reply) × (r .place ≡ writtenPlace reply) × (r .gates ≡ writtenCount reply) ⌝ }
 {
     match reply {
         Written::Done { count } => SulmedraWritten {

@@ -8,7 +8,6 @@ use Rattle.circuit.specs.Faults.{firstFault, lentOutput, listFault, orElse, ref
 use Rattle.circuit.specs.Gate.{Gate, gatesOf}
 use Rattle.circuit.specs.Limits.{gateBytes, logBytes, moveBytes, writeBytes}
 use Rattle.circuit.specs.Read.{either}
-use Rattle.moves.proofs.Products.{place}
 use Rattle.phase.specs.NewWeights.{rest}
 use Rattle.trimmer.specs.Trimmed.{Trimmed}
 use Rattle.trimmer.specs.declared.Counts.{Counts}

@@ -5,7 +5,6 @@ use mathlib.Core.Path.{_≡_}
 use Prim.Native.Nat.{_*_, _+_, ℕ}
 use lib.ListN.{drop, length}
 use Rattle.circuit.specs.Limits.{maxMembers, moveBytes}
-use Rattle.moves.proofs.Finding.{found, none}
 use Rattle.moves.specs.CarryOut.{carryOut}
 use Rattle.moves.specs.Log.{LegalBytes, logged, setOf, zOf}
 use Rattle.moves.specs.Move.{Legal}

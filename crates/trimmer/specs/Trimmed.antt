@@ -9,15 +9,13 @@ use Rattle.circuit.specs.Limits.{maxMembers, maxWires, moveBytes, weightBytes}
 use Rattle.circuit.specs.OddSet.{members, oddSet}
 use Rattle.circuit.specs.Read.{read}
 use Rattle.circuit.specs.Run.{run}
-use Rattle.moves.proofs.Bound.{bound}
 use Rattle.moves.specs.Log.{logged}
 use Rattle.moves.specs.Move.{Legal}
 use Rattle.moves.specs.Replay.{Replays}
-use Rattle.phase.proofs.Sums.{C}
 use Rattle.phase.specs.NewWeights.{newWeights}
 use Rattle.trimmer.specs.declared.Counts.{Counts}
 
--- the weights, the rows and the odd set of a list
+-- the weights and the odd set of a list
 abbrev pub weightsOf : ℕ → List Gate → List ℕ
 weightsOf n gs = read maxWires n gs .weights
 
@@ -44,7 +42,7 @@ pub record Trimmed (n : ℕ) (C D : List Gate) (log : List ℕ) (counts : Counts
   pub weights : weightsOf n D ≡ newWeights weightBytes n (weightsOf n C) (oddSetOf n D)
   -- no z and Y make a legal move from D's odd set
   pub finished : (z : ℕ) (Y : List ℕ) → Legal maxMembers n (oddSetOf n D) z Y → ⊥
-  -- the reported number of moves is the log's
+  -- the reported number of moves is the log's: that many are read from its start, each of them legal by `replayed`
   pub moves-logged : length (logged moveBytes log (counts .moves)) ≡ counts .moves
   -- and the other reported counts are those of C and D
   pub t-in : counts .tin ≡ tGates C
