@@ -9,7 +9,7 @@ use native.Mathlib.Decide.{decLe, ℕ-discrete}
 use native.Mathlib.Nat.{add-zero}
 use native.Mathlib.Omega.{arith}
 use borrow.Author.Tests.{eq-eqb, le-leb, lt-leb, ne-eqb}
-use Rattle.circuit.specs.Faults.{AllWellFormed, FirstFault, Has, KindHas, KindWellFormed, WellFormed, cnotFault, firstFault, gateAt, gateFault, gateWire, kindFault, lentFault, listFault, orElse, phaseFault, readFault, refuse, sameWire, wiresFault}
+use Rattle.circuit.specs.Faults.{AllWellFormed, FirstFault, Has, KindHas, KindWellFormed, WellFormed, cnotFault, firstFault, gateAt, gateFault, gateWire, kindFault, lentFault, listFault, orElse, phaseFault, readFault, refuse, sameWire, shortFault, wiresFault}
 use Rattle.circuit.specs.Gate.{Gate, gate, kindOf}
 use Rattle.circuit.specs.Limits.{gateBytes, maxListBytes, maxWires, rowBytes, weightBytes}
 use Rattle.circuit.specs.declared.gates.Kind.{Kind}
@@ -50,6 +50,16 @@ lent-pass m wanted e = go (ℕ-discrete m wanted)
 
 pub lent-well : (m wanted : ℕ) → m ≡ wanted → lentFault m wanted ≡ 0
 lent-well m wanted a = simp (eq-eqb m wanted a)
+
+pub short-pass : (m wanted : ℕ) → shortFault m wanted ≡ 0 → wanted ≤ m
+short-pass m wanted e = go (decLe wanted m)
+  where
+    go : Dec (wanted ≤ m) → wanted ≤ m
+    go (yes l) = l
+    go (no g) = absurd (omega (arith, simp (lt-leb wanted m (omega arith)) at e))
+
+pub short-well : (m wanted : ℕ) → wanted ≤ m → shortFault m wanted ≡ 0
+short-well m wanted l = simp (le-leb wanted m l)
 
 pub or-pass : (f g : ℕ) → orElse f g ≡ 0 → (f ≡ 0) × (g ≡ 0)
 or-pass zero g e = (refl, e)

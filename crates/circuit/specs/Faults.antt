@@ -127,6 +127,10 @@ listFault bytes = either (eqb (bytes % gateBytes) 0) (either (leb bytes maxListB
 abbrev pub lentFault : ℕ → ℕ → ℕ
 lentFault bytes wanted = either (eqb bytes wanted) 0 lentOutput
 
+-- of a lent output that may be longer than it must be
+abbrev pub shortFault : ℕ → ℕ → ℕ
+shortFault bytes wanted = either (leb wanted bytes) 0 lentOutput
+
 -- 1, 2 and 8 of a call that reads a list, by the lengths of the list, the weights and the rows
 unfoldable pub readFault : ℕ → ℕ → ℕ → ℕ → ℕ
 readFault n bytes weights rows =

@@ -1,6 +1,5 @@
 -- The numbers of document 01, each once. Every law takes the wire count n, and N for the most wires, as a parameter: only contracts cite these.
 use Prim.Native.Nat.{_*_, _+_, _-_, _/_, _^_, ℕ}
-use Prim.Native.Nat.{_*_, _+_, _^_, ℕ}
 
 -- a wire count is 1 to 8
 abbrev pub maxWires : ℕ

@@ -1,7 +1,7 @@
 // The faults of document 01 that a call or a gate can have. Each function gives the fault's number, and 0 where there is none.
 ghost use mathlib.Core.Path.{_≡_};
 ghost use Rattle.circuit.specs.Gate.{gate, gatesOf};
-ghost use Rattle.circuit.specs.Faults.{wiresFault, listFault, lentFault, orElse, readFault, cnotFault, phaseFault, gateFault, firstFault};
+ghost use Rattle.circuit.specs.Faults.{wiresFault, listFault, lentFault, shortFault, orElse, readFault, cnotFault, phaseFault, gateFault, firstFault};
 use crate::Reply;
 use crate::gates::Kind;
 use crate::gates::kind_of;
@@ -54,6 +54,13 @@ pub fn lent_fault(bytes: usize, wanted: usize) -> u8
     ensures { λ r. ⌜ r ≡ lentFault bytes wanted ⌝ }
 {
     if bytes == wanted { 0 } else { OUTPUT }
+}
+
+// Fault 8: a lent output has less room than it must have.
+pub fn short_fault(bytes: usize, wanted: usize) -> u8
+    ensures { λ r. ⌜ r ≡ shortFault bytes wanted ⌝ }
+{
+    if wanted <= bytes { 0 } else { OUTPUT }
 }
 
 // The first of two faults, in the order of the checks.

@@ -9,8 +9,8 @@ use native.Mathlib.Omega.{arith}
 use lib.ListN.{length, take}
 use lib.Pow.{pow-mono}
 use borrow.Author.Tests.{le-leb, lt-leb}
-use Rattle.circuit.proofs.Judging.{or-pass, or-well}
-use Rattle.circuit.specs.Faults.{Accepted, orElse}
+use Rattle.circuit.proofs.Judging.{or-pass, or-well, short-pass, short-well}
+use Rattle.circuit.specs.Faults.{Accepted, orElse, shortFault}
 use Rattle.circuit.specs.Gate.{Gate, bytesOf, gatesOf}
 use Rattle.circuit.specs.Limits.{gateBytes, maxWires, maxWrittenGates, rowBytes, weightBytes, writeBytes, writtenGates}
 use Rattle.circuit.specs.Sound.{SoundRows, SoundWeights}
@@ -22,7 +22,7 @@ use Rattle.synth.proofs.RowRule.{or-first, or-second, rows-sound}
 use Rattle.synth.proofs.Stores.{room-first, room-then, stored-front, stored-long, stored-rest, stored-then}
 use Rattle.synth.proofs.WriteBack.{list-written}
 use Rattle.synth.specs.Entry.{WriteList, Wrote, frontGates, writeReply}
-use Rattle.synth.specs.Faults.{Writable, roomFault, rowsFault, writeFault}
+use Rattle.synth.specs.Faults.{Writable, rowsFault, writeFault}
 use Rattle.synth.specs.Storing.{Room, Stored}
 use Rattle.synth.specs.Writing.{writeList, writePhases, writeRows}
 use Rattle.synth.specs.declared.Written.{Written}
@@ -37,34 +37,24 @@ longest n h =
 
 -- ---- the checks
 
-pub room-pass : (m : ℕ) → roomFault m ≡ 0 → writeBytes ≤ m
-room-pass m e = go (decLe writeBytes m)
-  where
-    go : Dec (writeBytes ≤ m) → writeBytes ≤ m
-    go (yes l) = l
-    go (no g) = absurd (omega (arith, simp (lt-leb writeBytes m (omega arith)) at e))
-
-pub room-well : (m : ℕ) → writeBytes ≤ m → roomFault m ≡ 0
-room-well m l = simp (le-leb writeBytes m l)
-
 module _ (n : ℕ) (w rows : List ℕ) (gates : ℕ) where
-  pub call-refuses : (f : ℕ) → f ≡ callFault n (roomFault gates) (weightsFault n w) → f ≢ 0 → f ≡ writeFault n w rows gates
+  pub call-refuses : (f : ℕ) → f ≡ callFault n (shortFault gates writeBytes) (weightsFault n w) → f ≢ 0 → f ≡ writeFault n w rows gates
   unfolding writeFault
   call-refuses f e h = or-first f (rowsFault rowBytes n rows) h ∙ ap (λ (x : ℕ). orElse x (rowsFault rowBytes n rows)) e
 
-  pub rows-decide : (f : ℕ) → f ≡ callFault n (roomFault gates) (weightsFault n w) → f ≡ 0 → rowsFault rowBytes n rows ≡ writeFault n w rows gates
+  pub rows-decide : (f : ℕ) → f ≡ callFault n (shortFault gates writeBytes) (weightsFault n w) → f ≡ 0 → rowsFault rowBytes n rows ≡ writeFault n w rows gates
   unfolding writeFault
-  rows-decide f e z = or-second (callFault n (roomFault gates) (weightsFault n w)) (rowsFault rowBytes n rows) (sym e ∙ z)
+  rows-decide f e z = or-second (callFault n (shortFault gates writeBytes) (weightsFault n w)) (rowsFault rowBytes n rows) (sym e ∙ z)
 
   pub fault-ready : writeFault n w rows gates ≡ 0 → Writable n w rows gates
   unfolding writeFault
   fault-ready e =
-      let a = or-pass (callFault n (roomFault gates) (weightsFault n w)) (rowsFault rowBytes n rows) e in
-      let b = call-passes n (roomFault gates) (weightsFault n w) (a .0) in
+      let a = or-pass (callFault n (shortFault gates writeBytes) (weightsFault n w)) (rowsFault rowBytes n rows) e in
+      let b = call-passes n (shortFault gates writeBytes) (weightsFault n w) (a .0) in
       record {
         some = b .0;
         few = b .1;
-        room = room-pass gates (b .2);
+        room = short-pass gates writeBytes (b .2);
         weights-sound = weights-sound weightBytes n w .0 (b .3);
         rows-sound = rows-sound rowBytes n rows .0 (a .1);
       }
@@ -72,8 +62,8 @@ module _ (n : ℕ) (w rows : List ℕ) (gates : ℕ) where
   pub ready-faultless : Writable n w rows gates → writeFault n w rows gates ≡ 0
   unfolding writeFault
   ready-faultless r =
-      or-well (callFault n (roomFault gates) (weightsFault n w)) (rowsFault rowBytes n rows)
-      (passes-call n (roomFault gates) (weightsFault n w) (r .some) (r .few) (room-well gates (r .room)) (weights-sound weightBytes n w .1 (r .weights-sound)))
+      or-well (callFault n (shortFault gates writeBytes) (weightsFault n w)) (rowsFault rowBytes n rows)
+      (passes-call n (shortFault gates writeBytes) (weightsFault n w) (r .some) (r .few) (short-well gates writeBytes (r .room)) (weights-sound weightBytes n w .1 (r .weights-sound)))
       (rows-sound rowBytes n rows .1 (r .rows-sound))
 
 -- ---- the ways out

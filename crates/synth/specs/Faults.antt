@@ -4,7 +4,7 @@ use Prim.Native.Nat.{_-_, _^_, _≤_, suc, zero, ℕ}
 use lib.Dec.{eqb, leb, ltb}
 use lib.ListN.{length}
 use Rattle.gf2.specs.Selection.{combine}
-use Rattle.circuit.specs.Faults.{lentOutput, orElse}
+use Rattle.circuit.specs.Faults.{orElse, shortFault}
 use Rattle.circuit.specs.Limits.{maxWires, rowBytes, weightBytes, writeBytes}
 use Rattle.circuit.specs.Read.{either}
 use Rattle.circuit.specs.Sound.{SoundRows, SoundWeights}
@@ -42,10 +42,6 @@ cancelFault (suc k) rows = either (eqb (combine (suc k) rows) 0) rowRule (cancel
 unfoldable pub rowsFault : ℕ → ℕ → List ℕ → ℕ
 rowsFault N n rows = either (eqb (length rows) N) (orElse (beyondFault n 0 rows) (cancelFault (2 ^ n - 1) rows)) rowRule
 
--- lent gates under 6,336 bytes
-abbrev pub roomFault : ℕ → ℕ
-roomFault gates = either (leb writeBytes gates) 0 lentOutput
-
 -- 1, 8, 6, then 7, by the weights, the rows and the length of the gates lent
 unfoldable pub writeFault : ℕ → List ℕ → List ℕ → ℕ → ℕ
-writeFault n weights rows gates = orElse (callFault n (roomFault gates) (weightsFault n weights)) (rowsFault rowBytes n rows)
+writeFault n weights rows gates = orElse (callFault n (shortFault gates writeBytes) (weightsFault n weights)) (rowsFault rowBytes n rows)

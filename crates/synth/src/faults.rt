@@ -3,11 +3,11 @@ ghost use mathlib.Core.Path.{_≡_};
 ghost use Prim.Native.Nat.{_-_, _^_, _≤_};
 ghost use lib.ListN.{length};
 ghost use Rattle.circuit.specs.Limits.{maxWires, rowBytes};
-ghost use Rattle.synth.specs.Faults.{roomFault, rowMost, beyondFault, cancelFault, rowsFault, writeFault};
+ghost use Rattle.synth.specs.Faults.{rowMost, beyondFault, cancelFault, rowsFault, writeFault};
 use crate::masks::copied;
 use crate::masks::pivot_of;
 use crate::masks::row_step;
-use circuit::faults::OUTPUT;
+use circuit::faults::short_fault;
 use circuit::limits::Parity;
 use circuit::limits::ROW_BYTES;
 use circuit::limits::WRITE_BYTES;
@@ -20,20 +20,13 @@ pub const ROW_RULE: u8 = 7;
 pub fn write_fault(n: usize, weights: &[u8], rows: &[u8], gates: usize) -> u8
     ensures { λ r. ⌜ r ≡ writeFault n (now (weights .entry)) (now (rows .entry)) gates ⌝ }
 {
-    let lent = room_fault(gates);
+    let lent = short_fault(gates, WRITE_BYTES);
     let table = weights_fault(n, weights);
     let fault = call_fault(n, lent, table);
     if fault != 0 {
         return fault;
     }
     rows_fault(n, rows)
-}
-
-// Fault 8: lent gates too short for the longest written list.
-fn room_fault(gates: usize) -> u8
-    ensures { λ r. ⌜ r ≡ roomFault gates ⌝ }
-{
-    if WRITE_BYTES <= gates { 0 } else { OUTPUT }
 }
 
 // Fault 7: rows that are not 8 bytes, have a bit or row beyond n, or are not invertible.

@@ -3,7 +3,8 @@ use mathlib.Core.List.{[], _∷_, _++_}
 use mathlib.Core.Path.{_≡_, refl}
 use Rattle.circuit.specs.Gate.{gate}
 use Rattle.text.specs.Hex.{digit, isDigit, valueOf}
-use Rattle.text.specs.Limits.{maxWritten, replyBytes, textBytes}
+use Rattle.circuit.specs.Limits.{maxWrittenGates}
+use Rattle.text.specs.Limits.{replyBytes, textBytes}
 use Rattle.text.specs.Lines.{areDigits, linesOf, linesSpell, spelled}
 use Rattle.text.specs.Text.{circuit, faulty, gatesFault, readText}
 use Rattle.text.specs.Written.{countsLine, gateLines, refusedLine, wiresLine}
@@ -95,7 +96,7 @@ printed-fault = refl
 text-limit : textBytes ≡ 28676
 text-limit = refl
 
-written-limit : maxWritten ≡ 2112
+written-limit : maxWrittenGates ≡ 2112
 written-limit = refl
 
 reply-limit : replyBytes ≡ 14807

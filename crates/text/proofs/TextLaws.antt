@@ -13,7 +13,7 @@ use lib.Seq.{drop-append-seam, take-append-seam}
 use borrow.Author.Tests.{eq-eqb, le-ltb, lt-leb, lt-ltb, ne-eqb}
 use Rattle.circuit.specs.Faults.{lentOutput, listLength, wireCount, wiresFault}
 use Rattle.circuit.specs.Gate.{Gate, gate, gatesOf}
-use Rattle.circuit.specs.Limits.{gateBytes, maxGates, maxListBytes, maxWires}
+use Rattle.circuit.specs.Limits.{gateBytes, maxGates, maxListBytes, maxWires, maxWrittenGates}
 use Rattle.circuit.specs.declared.Reply.{Reply}
 use Rattle.circuit.specs.declared.Reply.the-variants.{Done as Judged, Refused as Found}
 use Rattle.text.proofs.Deciding.{text-decided}
@@ -23,7 +23,7 @@ use Rattle.text.proofs.TextFaults.{Small, count-refused, faults-small, 
 use Rattle.text.proofs.WrittenReads.{circuit-pass, length-gates, pair-hex, pair-low, wires-starts, written-reads}
 use Rattle.text.specs.Entry.{ReadText, gatesAfter, readInto, replyOf}
 use Rattle.text.specs.Hex.{hex2, hex4}
-use Rattle.text.specs.Limits.{countsLineBytes, gateDigits, gateLineBytes, maxWritten, refusedLineBytes, replyBytes, textBytes, wiresDigits, wiresLineBytes}
+use Rattle.text.specs.Limits.{countsLineBytes, gateDigits, gateLineBytes, refusedLineBytes, replyBytes, textBytes, wiresDigits, wiresLineBytes}
 use Rattle.text.specs.Lines.{firstFormed, linesOf, spelled}
 use Rattle.text.specs.Text.{Sayable, Text, circuit, faulty, linesFault, malformed, readText}
 use Rattle.text.specs.Written.{countsLine, gateLine, gateLines, refusedLine, textOf, wiresLine}
@@ -184,6 +184,6 @@ gate-lines-long [] = refl
 gate-lines-long (g ∷ gs) = length-append (gateLine g) (gateLines gs) ∙ omega (arith, gate-line-long g, gate-lines-long gs)
 
 -- the longest reply
-pub reply-fits : (n tIn oddSize tOut moves : ℕ) (gs : List Gate) → length gs ≤ maxWritten
+pub reply-fits : (n tIn oddSize tOut moves : ℕ) (gs : List Gate) → length gs ≤ maxWrittenGates
     → length (wiresLine n ++ countsLine tIn oddSize tOut moves ++ gateLines gs) ≤ replyBytes
 reply-fits n tIn oddSize tOut moves gs h = omega (arith, length-append (wiresLine n ++ countsLine tIn oddSize tOut moves) (gateLines gs), gate-lines-long gs)

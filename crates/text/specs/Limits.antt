@@ -1,6 +1,6 @@
 -- The lengths of document 01's text form, in bytes, each once and from the limits of a circuit.
-use Prim.Native.Nat.{_*_, _+_, _^_, ℕ}
-use Rattle.circuit.specs.Limits.{gateBytes, maxGates, maxWires}
+use Prim.Native.Nat.{_*_, _+_, ℕ}
+use Rattle.circuit.specs.Limits.{gateBytes, maxGates, maxWrittenGates}
 
 -- n has two digits
 abbrev pub wiresDigits : ℕ
@@ -33,10 +33,6 @@ countsLineBytes = 4 * 5
 abbrev pub refusedLineBytes : ℕ
 refusedLineBytes = 8 + 2 + 1 + 4 + 1
 
--- the most gates that are written, 2,112
-abbrev pub maxWritten : ℕ
-maxWritten = maxWires * 2 ^ maxWires + maxWires * maxWires
-
 -- the longest reply: n, the counts, the gates
 abbrev pub replyBytes : ℕ
-replyBytes = wiresLineBytes + countsLineBytes + gateLineBytes * maxWritten
+replyBytes = wiresLineBytes + countsLineBytes + gateLineBytes * maxWrittenGates

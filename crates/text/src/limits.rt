@@ -1,8 +1,7 @@
 // The lengths of the text form, each once in the code. The same names stand in specs/Limits.antt, and the proofs hold the two together.
 use circuit::limits::GATE_BYTES;
 use circuit::limits::MAX_GATES;
-use circuit::limits::MAX_WIRES;
-use circuit::limits::WEIGHT_BYTES;
+use circuit::limits::MAX_WRITTEN_GATES;
 
 // n, of line one.
 pub const WIRES_DIGITS: usize = 2;
@@ -24,8 +23,7 @@ pub const COUNTS_LINE_BYTES: usize = 4 * 5;
 // `refused `, two digits, a space, four digits, a newline.
 pub const REFUSED_LINE_BYTES: usize = 8 + 2 + 1 + 4 + 1;
 
-// The most gates that are written.
-pub const MAX_WRITTEN: usize = MAX_WIRES * WEIGHT_BYTES + MAX_WIRES * MAX_WIRES;
-
 // The longest reply: n, the counts, the gates.
-pub const REPLY_BYTES: usize = WIRES_LINE_BYTES + COUNTS_LINE_BYTES + GATE_LINE_BYTES * MAX_WRITTEN;
+pub const REPLY_BYTES: usize = WIRES_LINE_BYTES
+    + COUNTS_LINE_BYTES
+    + GATE_LINE_BYTES * MAX_WRITTEN_GATES;

@@ -10,16 +10,15 @@ use Rattle.circuit.specs.Limits.{gateBytes, maxMembers, maxWires, moveBytes, we
 use Rattle.circuit.specs.OddSet.{members, oddSet}
 use Rattle.circuit.specs.Read.{Reading, read}
 use Rattle.circuit.specs.Sound.{SoundMarks, SoundReading, SoundRows, SoundWeights}
-use Rattle.moves.proofs.Finding.{none}
 use Rattle.moves.proofs.Laws.{limits-suffice}
 use Rattle.moves.specs.Log.{logged}
 use Rattle.moves.specs.Replay.{Replays}
 use Rattle.phase.proofs.Laws.{new-weights-sound}
-use Rattle.phase.specs.NewWeights.{newWeights, rest}
-use Rattle.synth.specs.Entry.{WroteBytes, frontGates}
+use Rattle.phase.specs.NewWeights.{newWeights}
+use Rattle.synth.specs.Entry.{Wrote, WroteBytes, frontGates}
 use Rattle.trimmer.proofs.Making.{still-sound}
 use Rattle.trimmer.proofs.Whole.{odd-set-sound, whole}
-use Rattle.trimmer.specs.Entry.{Done-with, KeptFrom, writtenOf}
+use Rattle.trimmer.specs.Entry.{Done-with, KeptFrom, Writes-read, writtenOf}
 use Rattle.trimmer.specs.Steps.{AllMade}
 use Rattle.trimmer.specs.Trimmed.{Trimmed, oddSetOf, weightsOf}
 use Rattle.trimmer.specs.declared.Counts.{Counts}
@@ -69,11 +68,13 @@ module _ (n : ℕ) (bytes : List ℕ) (accepted : Accepted n bytes) (w rows : Li
             let wD : weightsOf n D ≡ newWeights weightBytes n (weightsOf n (gatesOf bytes)) last = ap (λ (r : Reading). r .weights) (list .reads) ∙ new-is ∙ ap (λ (x : List ℕ). newWeights weightBytes n x last) w-is in
             let rD : read maxWires n D .rows ≡ read maxWires n (gatesOf bytes) .rows = ap (λ (r : Reading). r .rows) (list .reads) ∙ rows-is in
             let tD : tGates D ≡ members (oddSetOf n D) = list .t-gates ∙ ap (λ (r : Reading). members (oddSet (r .weights))) (sym (list .reads)) in
+            let written-list : Writes-read n D = subst (λ (r : Reading). Wrote maxWires n (r .weights) (r .rows) D) (sym (list .reads)) list in
             record {
               trimmed =
                   subst (λ (j : ℕ). Trimmed n (gatesOf bytes) (writtenOf out′ j) log′ counts) (sym gates)
                   (whole n (accepted .few) (gatesOf bytes) (accepted .formed) log′ k last replayed (all .none) D (list .formed) wD rD tD counts tin (odd′ ∙ ap members first-is) tout moves
                   (gates ∙ wrote .counted));
+              written = subst (λ (j : ℕ). Writes-read n (writtenOf out′ j)) (sym gates) written-list;
               gates-kept = subst (λ (j : ℕ). KeptFrom (gateBytes * j) out out′) (sym gates) (record { long = wrote .long; rest = wrote .rest });
               log-kept = subst (λ (j : ℕ). KeptFrom (moveBytes * j) log log′) (sym moves) (record { long = all .made .long; rest = all .made .rest });
             }

@@ -1,33 +1,20 @@
 -- One law for each way out of the entry `trim`, and what an accepted call brings.
 use mathlib.Core.List.{List}
 use mathlib.Core.Logic.{_≢_}
-use mathlib.Core.Option.{some}
 use mathlib.Core.Path.{ap, refl, subst, sym, _∙_, _≡_}
 use Prim.Native.Nat.{_%_, ℕ, _≤_}
-use native.Mathlib.Decide.{decLe}
 use native.Mathlib.Omega.{arith}
 use lib.ListN.{length}
-use borrow.Author.Tests.{lt-leb}
-use Rattle.circuit.proofs.Judging.{done-formed, list-pass, or-pass, refused, wires-pass}
-use Rattle.circuit.specs.Faults.{Accepted, firstFault, listFault, orElse, refuse, wiresFault}
+use Rattle.circuit.proofs.Judging.{done-formed, list-pass, or-pass, refused, short-pass, wires-pass}
+use Rattle.circuit.specs.Faults.{Accepted, firstFault, listFault, orElse, refuse, shortFault, wiresFault}
 use Rattle.circuit.specs.Gate.{gatesOf}
 use Rattle.circuit.specs.Limits.{gateBytes, logBytes, maxListBytes, maxWires, writeBytes}
-use Rattle.moves.proofs.Finding.{found}
-use Rattle.moves.proofs.Products.{place}
-use Rattle.trimmer.proofs.Whole.{whole}
-use Rattle.trimmer.specs.Entry.{Done-with, Outcome, TrimList, shortFault, trimFault, verdict}
+use Rattle.trimmer.specs.Entry.{Done-with, Outcome, TrimList, trimFault, verdict}
 use Rattle.trimmer.specs.declared.Counts.{Counts}
 use Rattle.trimmer.specs.declared.TrimReply.{TrimReply}
 use Rattle.trimmer.specs.declared.TrimReply.the-variants.{Done, Refused}
 use Rattle.circuit.specs.declared.Reply.{Reply}
 use Rattle.circuit.specs.declared.Reply.the-variants as reply
-
-short-pass : (bytes wanted : ℕ) → shortFault bytes wanted ≡ 0 → wanted ≤ bytes
-short-pass bytes wanted e = go (decLe wanted bytes)
-  where
-    go : Dec (wanted ≤ bytes) → wanted ≤ bytes
-    go (yes a) = a
-    go (no a) = absurd (omega (arith, simp (lt-leb wanted bytes (omega arith)) at e))
 
 -- what a call without faults 1, 2 and 8 brings
 pub record Lent (n m out log : ℕ) : Type 0 where

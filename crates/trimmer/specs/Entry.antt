@@ -2,23 +2,18 @@
 use mathlib.Core.List.{List}
 use mathlib.Core.Path.{_≡_}
 use Prim.Native.Nat.{_*_, ℕ}
-use lib.Dec.{leb}
 use lib.ListN.{drop, length, take}
-use Rattle.circuit.specs.Faults.{firstFault, lentOutput, listFault, orElse, refuse, wiresFault}
+use Rattle.circuit.specs.Faults.{firstFault, listFault, orElse, refuse, shortFault, wiresFault}
 use Rattle.circuit.specs.Gate.{Gate, gatesOf}
-use Rattle.circuit.specs.Limits.{gateBytes, logBytes, moveBytes, writeBytes}
-use Rattle.circuit.specs.Read.{either}
-use Rattle.phase.specs.NewWeights.{rest}
+use Rattle.circuit.specs.Limits.{gateBytes, logBytes, maxWires, moveBytes, writeBytes}
+use Rattle.circuit.specs.Read.{read}
+use Rattle.synth.specs.Entry.{Wrote}
 use Rattle.trimmer.specs.Trimmed.{Trimmed}
 use Rattle.trimmer.specs.declared.Counts.{Counts}
 use Rattle.trimmer.specs.declared.TrimReply.{TrimReply}
 use Rattle.trimmer.specs.declared.TrimReply.the-variants.{Done, Refused}
 use Rattle.circuit.specs.declared.Reply.{Reply}
 use Rattle.circuit.specs.declared.Reply.the-variants as reply
-
--- 8: a lent output with less room than it must have
-abbrev pub shortFault : ℕ → ℕ → ℕ
-shortFault bytes wanted = either (leb wanted bytes) 0 lentOutput
 
 -- 1, 2 and 8, by the lengths of the list, the gates lent and the log lent
 unfoldable pub trimFault : ℕ → ℕ → ℕ → ℕ → ℕ
@@ -37,9 +32,15 @@ pub record KeptFrom (k : ℕ) (was left : List ℕ) : Type 0 where
   pub long : length left ≡ length was
   pub rest : drop k left ≡ drop k was
 
+-- what the papers say of a written list holds of this one, for the weights and rows that reading it gives
+abbrev pub Writes-read : ℕ → List Gate → Type 0
+Writes-read n D = Wrote maxWires n (read maxWires n D .weights) (read maxWires n D .rows) D
+
 -- an accepted C is trimmed
 pub record Done-with (n : ℕ) (bytes out log out′ log′ : List ℕ) (counts : Counts) : Type 0 where
   pub trimmed : Trimmed n (gatesOf bytes) (writtenOf out′ (counts .gates)) log′ counts
+  -- and D is written as any list is: each weight in its spelling, and at most n * 2^n + n * n gates
+  pub written : Writes-read n (writtenOf out′ (counts .gates))
   -- bytes after the last gate, and after the last move, stay untouched
   pub gates-kept : KeptFrom (gateBytes * counts .gates) out out′
   pub log-kept : KeptFrom (moveBytes * counts .moves) log log′

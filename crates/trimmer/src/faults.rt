@@ -1,9 +1,9 @@
 // The faults of a call of the trim.
 ghost use mathlib.Core.Path.{_≡_};
-ghost use Rattle.trimmer.specs.Entry.{shortFault, trimFault};
-use circuit::faults::OUTPUT;
+ghost use Rattle.trimmer.specs.Entry.{trimFault};
 use circuit::faults::list_fault;
 use circuit::faults::or_else;
+use circuit::faults::short_fault;
 use circuit::faults::wires_fault;
 use circuit::limits::LOG_BYTES;
 use circuit::limits::WRITE_BYTES;
@@ -14,11 +14,4 @@ pub fn trim_fault(n: usize, bytes: usize, out: usize, log: usize) -> u8
 {
     let lent = or_else(short_fault(out, WRITE_BYTES), short_fault(log, LOG_BYTES));
     or_else(wires_fault(n), or_else(list_fault(bytes), lent))
-}
-
-// Fault 8: a lent output with less room than it must have.
-fn short_fault(bytes: usize, wanted: usize) -> u8
-    ensures { λ r. ⌜ r ≡ shortFault bytes wanted ⌝ }
-{
-    if wanted <= bytes { 0 } else { OUTPUT }
 }

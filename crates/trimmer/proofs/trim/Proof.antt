@@ -2,7 +2,6 @@
 use native.Mathlib.Omega.{arith}
 use borrow.Author.Needs.{needs}
 use denote.Ref.{now}
-use Rattle.moves.proofs.Finding.{found}
 use Rattle.trimmer.proofs.TrimWays.{may-trim, trim-done, trim-gate-refused, trim-refused}
 use Rattle.trimmer.proofs.trim.Statement.{statement}
 use Rattle.trimmer.proofs.trim.Tie as tie

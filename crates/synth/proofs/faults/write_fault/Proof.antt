@@ -6,12 +6,13 @@ use denote.Ref.{now}
 use Rattle.weights.proofs.Ways.{call-passes}
 use Rattle.weights.specs.Faults.{callFault, weightsFault}
 use Rattle.synth.proofs.WriteWays.{call-refuses, rows-decide}
-use Rattle.synth.specs.Faults.{roomFault}
+use Rattle.circuit.specs.Faults.{shortFault}
+use Rattle.circuit.specs.Limits.{writeBytes}
 use Rattle.synth.proofs.faults.write_fault.Statement.{statement}
 use Rattle.synth.proofs.faults.write_fault.Tie as tie
 
-room-fault-requires : tie.Need-room-fault-requires
-room-fault-requires c κs = search needs
+short-fault-requires : tie.Need-short-fault-requires
+short-fault-requires c κs = search needs
 
 weights-fault-requires : tie.Need-weights-fault-requires
 weights-fault-requires c κs = search needs
@@ -20,19 +21,19 @@ call-fault-requires : tie.Need-call-fault-requires
 call-fault-requires c κs = search needs
 
 returns : tie.Need-returns
-returns c = let a = c .before .before .before .before .before .before .args in call-refuses (a .n) (now (a .weights)) (now (a .rows)) (a .gates) (c .before .call-fault .result) (c .before .call-fault .ensures ∙ ap₂ (callFault (a .n)) (c .before .before .before .room-fault .ensures) (c .before .before .weights-fault .ensures)) (omega arith)
+returns c = let a = c .before .before .before .before .before .before .args in call-refuses (a .n) (now (a .weights)) (now (a .rows)) (a .gates) (c .before .call-fault .result) (c .before .call-fault .ensures ∙ ap₂ (callFault (a .n)) (c .before .before .before .short-fault .ensures) (c .before .before .weights-fault .ensures)) (omega arith)
 
 rows-fault-requires : tie.Need-rows-fault-requires
-rows-fault-requires c κs = let a = c .before .before .before .before .before .before .args in let z : c .before .call-fault .result ≡ 0 = omega arith in call-passes (a .n) (roomFault (a .gates)) (weightsFault (a .n) (now (a .weights))) (sym (c .before .call-fault .ensures ∙ ap₂ (callFault (a .n)) (c .before .before .before .room-fault .ensures) (c .before .before .weights-fault .ensures)) ∙ z) .1
+rows-fault-requires c κs = let a = c .before .before .before .before .before .before .args in let z : c .before .call-fault .result ≡ 0 = omega arith in call-passes (a .n) (shortFault (a .gates) writeBytes) (weightsFault (a .n) (now (a .weights))) (sym (c .before .call-fault .ensures ∙ ap₂ (callFault (a .n)) (c .before .before .before .short-fault .ensures) (c .before .before .weights-fault .ensures)) ∙ z) .1
 
 returns-2 : tie.Need-returns-2
-returns-2 c = let a = c .before .before .before .before .before .before .before .args in c .rows-fault .ensures ∙ rows-decide (a .n) (now (a .weights)) (now (a .rows)) (a .gates) (c .before .before .call-fault .result) (c .before .before .call-fault .ensures ∙ ap₂ (callFault (a .n)) (c .before .before .before .before .room-fault .ensures) (c .before .before .before .weights-fault .ensures)) (omega arith)
+returns-2 c = let a = c .before .before .before .before .before .before .before .args in c .rows-fault .ensures ∙ rows-decide (a .n) (now (a .weights)) (now (a .rows)) (a .gates) (c .before .before .call-fault .result) (c .before .before .call-fault .ensures ∙ ap₂ (callFault (a .n)) (c .before .before .before .before .short-fault .ensures) (c .before .before .before .weights-fault .ensures)) (omega arith)
 
 pub write-fault-spec : {M : Type 1} → statement M
 write-fault-spec =
     tie.close
     (tie.spec
-    room-fault-requires
+    short-fault-requires
     weights-fault-requires
     call-fault-requires
     returns

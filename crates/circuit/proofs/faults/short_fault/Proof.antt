@@ -1,8 +1,8 @@
 -- Fault 8, by the one test.
 use native.Mathlib.Omega.{arith}
 use borrow.Author.Tests.{le-leb, lt-leb}
-use Rattle.trimmer.proofs.faults.short_fault.Statement.{statement}
-use Rattle.trimmer.proofs.faults.short_fault.Tie as tie
+use Rattle.circuit.proofs.faults.short_fault.Statement.{statement}
+use Rattle.circuit.proofs.faults.short_fault.Tie as tie
 
 returns : tie.Need-returns
 returns c = simp (le-leb (c .before .args .wanted) (c .before .args .bytes) (omega arith))

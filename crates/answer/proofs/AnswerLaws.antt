@@ -1,0 +1,120 @@
+-- The page to read: what the promise of `answer` means.
+use mathlib.Core.Bool.{Bool, false, true}
+use mathlib.Core.List.{List, [], _∷_}
+use mathlib.Core.Logic.{inl, inr}
+use mathlib.Core.Path.{_∙_, _≡_, ap, refl, subst, sym}
+use Prim.Native.Nat.{_%_, _*_, _+_, _<_, _≤_, ℕ}
+use native.Mathlib.Decide.{decLt}
+use native.Mathlib.Nat.{zero-add}
+use native.Mathlib.Omega.{arith}
+use lib.Dec.{ltb}
+use lib.ListN.{drop, length, length-append, take}
+use lib.Seq.{drop-append-seam, take-append-seam}
+use borrow.Author.Tests.{le-ltb, lt-ltb}
+use Rattle.circuit.proofs.GateKinds.{t-is-odd}
+use Rattle.circuit.proofs.Laws.{fault-is-first, odd-set-no-larger}
+use Rattle.circuit.specs.Faults.{AllWellFormed, Has, KindHas, firstFault, gateAt, lentOutput, sameWire}
+use Rattle.circuit.specs.Gate.{Gate, gate, gatesOf, kindOf, tGates}
+use Rattle.circuit.specs.Limits.{maxGates, maxWires}
+use Rattle.circuit.specs.declared.Reply.the-variants as reply
+use Rattle.circuit.specs.declared.gates.Kind.{Kind}
+use Rattle.circuit.specs.declared.gates.Kind.the-variants.{Cnot, Phase, Unknown}
+use Rattle.text.proofs.TextLaws.{first-bytes-decide}
+use Rattle.text.specs.Limits.{replyBytes, textBytes}
+use Rattle.text.specs.Placed.{Writes}
+use Rattle.text.specs.Text.{Sayable, Text, readText}
+use Rattle.answer.proofs.AnswerWays.{gates-in}
+use Rattle.answer.specs.Entry.{AnswerText, Outcome, Writes-printed}
+use Rattle.answer.specs.Printed.{Prints, PrintsTrim}
+use Rattle.answer.specs.declared.Answered.{Answered}
+use Rattle.answer.specs.declared.Answered.the-variants.{Done, Refused}
+
+-- ---- the first 28,676 bytes decide
+
+-- a call with these bytes alone replies and leaves what one with the whole text may
+pub first-bytes-decide-reply : (t out out′ : List ℕ) (r : Answered) → AnswerText (take textBytes t) out out′ r → AnswerText t out out′ r
+first-bytes-decide-reply t out out′ r a =
+    record { outcome = subst (λ (x : Text). Outcome (ltb (length out) replyBytes) x out out′ r) (sym (first-bytes-decide t)) (a .outcome) }
+
+-- ---- what is left in the lent bytes
+
+-- the reply is what stands in the first of them, and the others are as they were
+pub record Printed (t out out′ : List ℕ) (count : ℕ) : Type 0 where
+  pub prints : Prints (readText t) (take count out′)
+  pub long : count ≡ length (take count out′)
+  pub within : count ≤ length out′
+  pub rest : drop count out′ ≡ drop count out
+
+module _ (t out out′ : List ℕ) (count : ℕ) where
+  written : Writes-printed (readText t) out out′ count → Printed t out out′ count
+  written (bytes, p, w) =
+      let e : count ≡ length bytes = omega (arith, w .onward) in
+      let front : take count out′ ≡ bytes = rw (e, w .written) (take-append-seam bytes (drop (0 + length bytes) out)) in
+      record {
+        prints = subst (Prints (readText t)) (sym front) p;
+        long = e ∙ sym (ap length front);
+        within = omega (arith, e, ap length (w .written), length-append bytes (drop (0 + length bytes) out));
+        rest = rw (e, w .written) (drop-append-seam bytes (drop (0 + length bytes) out) ∙ rw (zero-add (length bytes)));
+      }
+
+  pub done-prints : AnswerText t out out′ (Done count) → Printed t out out′ count
+  done-prints a = go (ltb (length out) replyBytes) (a .outcome)
+    where
+      never : Done count ≡ Refused lentOutput 0 → ⊥
+      never e = let z : _≡_ {A = ℕ} 0 1 = cc in omega arith
+
+      same : (k : ℕ) → Done count ≡ Done k → k ≡ count
+      same k e = cc
+
+      go : (b : Bool) → Outcome b (readText t) out out′ (Done count) → Printed t out out′ count
+      go true o = absurd (never (o .0))
+      go false o = written (subst (λ (k : ℕ). Writes-printed (readText t) out out′ k) (same (o .0) (o .1)) (o .2))
+
+  -- after a refusal they are as they were, and only too little room is refused
+  pub refusal-leaves : (number place : ℕ) → AnswerText t out out′ (Refused number place) → (out′ ≡ out) × (length out < replyBytes)
+  refusal-leaves number place a = go (decLt (length out) replyBytes)
+    where
+      never : (k : ℕ) → Refused number place ≡ Done k → ⊥
+      never k e = let z : _≡_ {A = ℕ} 0 1 = cc in omega arith
+
+      told : (b : Bool) → ltb (length out) replyBytes ≡ b → Outcome b (readText t) out out′ (Refused number place)
+      told b e = subst (λ (x : Bool). Outcome x (readText t) out out′ (Refused number place)) e (a .outcome)
+
+      go : Dec (length out < replyBytes) → (out′ ≡ out) × (length out < replyBytes)
+      go (yes h) = (told true (lt-ltb (length out) replyBytes h) .1, h)
+      go (no h) = let o = told false (le-ltb (length out) replyBytes (omega arith)) in absurd (never (o .0) (o .1))
+
+-- ---- no number has more digits than are printed
+
+t-few : (gs : List Gate) → tGates gs ≤ length gs
+unfolding tGates
+t-few [] = omega arith
+t-few (gate kind a b ∷ gs) = omega (arith, t-is-odd kind, t-few gs)
+
+module _ (n : ℕ) (list : List ℕ) (said : Sayable n list) where
+  few : length (gatesOf list) ≤ maxGates
+  few = omega (arith, gates-in list, said .short)
+
+  -- the four counts of a trim
+  pub counts-small : AllWellFormed n (gatesOf list) → (bytes : List ℕ) (p : PrintsTrim n (gatesOf list) bytes)
+      → (p .counts .tin ≤ maxGates) × (p .counts .odd ≤ maxGates) × (p .counts .tout ≤ maxGates) × (p .counts .moves ≤ maxGates)
+  counts-small formed bytes p =
+      let t = p .trimmed in
+      let h = t-few (gatesOf list) in
+      let o = odd-set-no-larger maxWires n (said .few) (gatesOf list) formed in
+      (omega (arith, t .t-in, h, few), omega (arith, t .odd-size, o, h, few), omega (arith, t .t-out, t .no-more, h, few), omega (arith, t .afford, o, h, few))
+
+  -- the number and the place of a gate's fault
+  pub fault-small : (number place : ℕ) → firstFault n 0 (gatesOf list) ≡ reply.Refused number place → (number ≤ sameWire) × (place < maxGates)
+  fault-small number place e =
+      let f = fault-is-first n (gatesOf list) number place e in
+      (of-gate (gateAt (gatesOf list) place) (f .has), omega (arith, f .inside, few))
+    where
+      of-kind : (k : Kind) (a b : ℕ) → KindHas n number k a b → number ≤ sameWire
+      of-kind Cnot a b (inl h) = omega (arith, h .0)
+      of-kind Cnot a b (inr h) = omega (arith, h .0)
+      of-kind (Phase v) a b h = omega (arith, h .0)
+      of-kind Unknown a b h = omega (arith, h)
+
+      of-gate : (g : Gate) → Has n number g → number ≤ sameWire
+      of-gate (gate kind a b) h = of-kind (kindOf kind) a b h

@@ -1,0 +1,158 @@
+-- One law for each way out of the functions of this crate: what the text reader and the trim reply, and what is printed for it.
+use mathlib.Core.Bool.{Bool}
+use mathlib.Core.List.{List, [], _∷_}
+use mathlib.Core.Path.{_∙_, _≡_, ap, ap₂, refl, subst, sym}
+use Prim.Native.Nat.{_*_, _/_, _<_, _≤_, min, ℕ}
+use native.Mathlib.Omega.{arith}
+use lib.ListN.{length, length-take, take}
+use borrow.Author.Tests.{le-ltb, lt-ltb}
+use Rattle.circuit.proofs.Judging.{list-well, or-well, short-well, wires-well}
+use Rattle.circuit.specs.Faults.{firstFault, lentOutput, listFault, refuse, shortFault, wiresFault}
+use Rattle.circuit.specs.Gate.{Gate, gatesOf}
+use Rattle.circuit.specs.Limits.{gateBytes, logBytes, maxListBytes, writeBytes}
+use Rattle.circuit.specs.declared.Reply.{Reply}
+use Rattle.circuit.specs.declared.Reply.the-variants as reply
+use Rattle.text.proofs.TextLaws.{CircuitRead, done-reads}
+use Rattle.text.specs.Entry.{ReadText, readInto, replyOf}
+use Rattle.text.specs.Limits.{replyBytes}
+use Rattle.text.specs.Placed.{Writes}
+use Rattle.text.specs.Text.{Sayable, Text, circuit, faulty, readText}
+use Rattle.text.specs.Written.{refusedLine}
+use Rattle.text.specs.declared.TextReply.{TextReply}
+use Rattle.text.specs.declared.TextReply.the-variants as read
+use Rattle.trimmer.specs.Entry.{Done-with, Outcome, TrimList, trimFault, verdict, writtenOf}
+use Rattle.trimmer.specs.declared.Counts.{Counts}
+use Rattle.trimmer.specs.declared.TrimReply.{TrimReply}
+use Rattle.trimmer.specs.declared.TrimReply.the-variants as trim
+use Rattle.answer.specs.Entry.{AnswerText, Writes-printed}
+use Rattle.answer.specs.Entry as entry
+use Rattle.answer.specs.Printed.{Prints, PrintsGates, trimLines}
+use Rattle.answer.specs.declared.Answered.{Answered}
+use Rattle.answer.specs.declared.Answered.the-variants.{Done, Refused}
+
+-- a gate takes three bytes
+pub gates-in : (bytes : List ℕ) → gateBytes * length (gatesOf bytes) ≤ length bytes
+unfolding gatesOf
+gates-in [] = omega arith
+gates-in (k ∷ []) = omega arith
+gates-in (k ∷ a ∷ []) = omega arith
+gates-in (k ∷ a ∷ b ∷ bytes) = omega (arith, gates-in bytes)
+
+-- ---- the trim of a circuit that a text says, with room lent for D and the log
+
+module _ (n : ℕ) (g list log : List ℕ) (said : Sayable n g) (room : writeBytes ≤ length list) (log-room : logBytes ≤ length log) where
+  -- it is judged by its gates alone
+  no-fault : trimFault n (length g) (length list) (length log) ≡ 0
+  unfolding trimFault
+  no-fault =
+      let outs = or-well (shortFault (length list) writeBytes) (shortFault (length log) logBytes) (short-well (length list) writeBytes room) (short-well (length log) logBytes log-room) in
+      or-well (wiresFault n) _ (wires-well n (said .some) (said .few)) (or-well (listFault (length g)) _ (list-well (length g) (said .whole) (said .short)) outs)
+
+  judged : verdict n g (length list) (length log) ≡ firstFault n 0 (gatesOf g)
+  judged = ap (λ (f : ℕ). refuse f 0 (firstFault n 0 (gatesOf g))) no-fault
+
+  module _ (list′ log′ : List ℕ) (r : TrimReply) (t : TrimList n g list log list′ log′ r) where
+    by-gates : Outcome (firstFault n 0 (gatesOf g)) n g list log list′ log′ r
+    by-gates = subst (λ (v : Reply). Outcome v n g list log list′ log′ r) judged (t .outcome)
+
+    module _ (counts : Counts) (is : r ≡ trim.Done counts) where
+      done : (firstFault n 0 (gatesOf g) ≡ reply.Done) × Done-with n g list log list′ log′ counts
+      done = go (firstFault n 0 (gatesOf g)) refl by-gates
+        where
+          same : (a : Counts) → trim.Done a ≡ trim.Done counts → a ≡ counts
+          same a e = cc
+
+          never : (number place : ℕ) → trim.Refused number place ≡ trim.Done counts → ⊥
+          never number place e = let z : _≡_ {A = ℕ} 0 1 = cc in omega arith
+
+          go : (v : Reply) → firstFault n 0 (gatesOf g) ≡ v → Outcome v n g list log list′ log′ r
+              → (firstFault n 0 (gatesOf g) ≡ reply.Done) × Done-with n g list log list′ log′ counts
+          go reply.Done e o = (e, subst (λ (k : Counts). Done-with n g list log list′ log′ k) (same (o .0) (sym (o .1) ∙ is)) (o .2))
+          go (reply.Refused number place) e o = absurd (never number place (sym (o .0) ∙ is))
+
+      -- D stands within what was lent
+      pub gates-within : gateBytes * counts .gates ≤ length list
+      gates-within =
+          let d = done .1 in
+          let front = take (gateBytes * counts .gates) list′ in
+          omega (arith, d .trimmed .gates-written, gates-in front, length-take (gateBytes * counts .gates) list′, d .gates-kept .long)
+
+      pub gates-left : gateBytes * counts .gates ≤ length list′
+      gates-left = omega (arith, gates-within, done .1 .gates-kept .long)
+
+      -- and takes just the bytes counted
+      pub counted : gateBytes * counts .gates ≡ length (take (gateBytes * counts .gates) list′)
+      counted = omega (arith, gates-within, length-take (gateBytes * counts .gates) list′, done .1 .gates-kept .long)
+
+      pub trim-printed : (was left : List ℕ) (next : ℕ) → Writes was 0 (trimLines n counts (writtenOf list′ (counts .gates))) left next → Writes-printed (circuit n g) was left next
+      trim-printed was left next w = (
+        trimLines n counts (writtenOf list′ (counts .gates)),
+        subst (λ (v : Reply). PrintsGates v n (gatesOf g) (trimLines n counts (writtenOf list′ (counts .gates)))) (sym (done .0))
+            (record { D = writtenOf list′ (counts .gates); log = log′; counts = counts; trimmed = done .1 .trimmed; written = done .1 .written; lines = refl }),
+        w,
+      )
+
+    pub gate-printed : (number place : ℕ) → r ≡ trim.Refused number place → (was left : List ℕ) (next : ℕ) → Writes was 0 (refusedLine number place) left next
+        → Writes-printed (circuit n g) was left next
+    gate-printed number place is was left next w = go (firstFault n 0 (gatesOf g)) refl by-gates
+      where
+        same : (f p : ℕ) → trim.Refused f p ≡ trim.Refused number place → reply.Refused f p ≡ reply.Refused number place
+        same f p e = cc
+
+        never : (counts : Counts) → trim.Done counts ≡ trim.Refused number place → ⊥
+        never counts e = let z : _≡_ {A = ℕ} 0 1 = cc in omega arith
+
+        go : (v : Reply) → firstFault n 0 (gatesOf g) ≡ v → Outcome v n g list log list′ log′ r → Writes-printed (circuit n g) was left next
+        go reply.Done e o = absurd (never (o .0) (sym (o .1) ∙ is))
+        go (reply.Refused f p) e o = (
+          refusedLine number place,
+          subst (λ (v : Reply). PrintsGates v n (gatesOf g) (refusedLine number place)) (sym (e ∙ same f p (sym (o .0) ∙ is))) refl,
+          w,
+        )
+
+-- ---- the text, read with room lent for every list
+
+module _ (t gates gates′ : List ℕ) (r : TextReply) (p : ReadText t gates gates′ r) (was left : List ℕ) (next : ℕ) where
+  pub circuit-printed : (n m : ℕ) → r ≡ read.Done n m → Writes-printed (circuit n (take (gateBytes * m) gates′)) was left next → Writes-printed (readText t) was left next
+  circuit-printed n m is w =
+      let c = done-reads t gates gates′ n m (subst (λ (x : TextReply). ReadText t gates gates′ x) is p) in
+      subst (λ (x : Text). Writes-printed x was left next) (sym (c .says)) w
+
+  pub fault-printed : maxListBytes ≤ length gates → (number place : ℕ) → r ≡ read.Refused number place → Writes was 0 (refusedLine number place) left next
+      → Writes-printed (readText t) was left next
+  fault-printed room number place is w = go (readText t) refl
+    where
+      told : read.Refused number place ≡ replyOf (readText t)
+      told =
+          let whole : readInto (length gates) t ≡ readText t = simp (le-ltb (length gates) maxListBytes room) in
+          sym is ∙ p .reply ∙ ap replyOf whole
+
+      same : (f q : ℕ) → read.Refused number place ≡ read.Refused f q → refusedLine number place ≡ refusedLine f q
+      same f q e =
+          let a : number ≡ f = cc in
+          let b : place ≡ q = cc in
+          ap₂ refusedLine a b
+
+      never : (n m : ℕ) → read.Refused number place ≡ read.Done n m → ⊥
+      never n m e = let z : _≡_ {A = ℕ} 0 1 = cc in omega arith
+
+      go : (x : Text) → readText t ≡ x → Writes-printed (readText t) was left next
+      go (circuit n bytes) e = absurd (never n (length bytes / gateBytes) (told ∙ ap replyOf e))
+      go (faulty f q) e = subst (λ (x : Text). Writes-printed x was left next) (sym e) (refusedLine number place, same f q (told ∙ ap replyOf e), w)
+
+-- what a text that reads as a circuit brings
+pub circuit-said : (t gates gates′ : List ℕ) (r : TextReply) → ReadText t gates gates′ r → (n m : ℕ) → r ≡ read.Done n m → CircuitRead t gates gates′ n m
+circuit-said t gates gates′ r p n m is = done-reads t gates gates′ n m (subst (λ (x : TextReply). ReadText t gates gates′ x) is p)
+
+-- its gates stand within what was lent
+pub circuit-left : (t gates gates′ : List ℕ) (n m : ℕ) → CircuitRead t gates gates′ n m → gateBytes * m ≤ length gates′
+circuit-left t gates gates′ n m c = omega (arith, c .long, length-take (gateBytes * m) gates′)
+
+-- ---- the entry
+
+module _ (t out : List ℕ) where
+  pub too-little-room : length out < replyBytes → AnswerText t out out (Refused lentOutput 0)
+  too-little-room h = record { outcome = subst (λ (b : Bool). entry.Outcome b (readText t) out out (Refused lentOutput 0)) (sym (lt-ltb (length out) replyBytes h)) (refl, refl) }
+
+  pub answered : replyBytes ≤ length out → (out′ : List ℕ) (count : ℕ) → Writes-printed (readText t) out out′ count → AnswerText t out out′ (Done count)
+  answered h out′ count w = record { outcome = subst (λ (b : Bool). entry.Outcome b (readText t) out out′ (Done count)) (sym (le-ltb (length out) replyBytes h)) (count, refl, w) }

@@ -1,0 +1,2 @@
+pub mod AnswerWays
+pub mod AnswerLaws

@@ -1,0 +1,27 @@
+-- Too little room, and room enough.
+use native.Mathlib.Omega.{arith}
+use borrow.Author.Needs.{needs}
+use borrow.Author.Tests.{ltb-false, ltb-true}
+use denote.Ref.{now}
+use Rattle.answer.proofs.AnswerWays.{answered, too-little-room}
+use Rattle.answer.proofs.answer.Statement.{statement}
+use Rattle.answer.proofs.answer.Tie as tie
+
+returns : tie.Need-returns
+returns c =
+    let a = c .before .before .before .args in
+    too-little-room (now (a .text)) (now (a .out)) (omega arith)
+
+put-reply-requires : tie.Need-put-reply-requires
+put-reply-requires c κs = search needs
+
+same-length : tie.Need-same-length
+same-length c = search needs
+
+returns-2 : tie.Need-returns-2
+returns-2 c =
+    let a = c .before .before .before .before .before .before .before .args in
+    answered (now (a .text)) (now (a .out)) (omega (arith, c .before .before .before .before .if1 .left)) _ _ (c .before .before .put-reply .ensures)
+
+pub answer-spec : {M : Type 1} → statement M
+answer-spec = tie.close (tie.spec returns put-reply-requires same-length returns-2)
