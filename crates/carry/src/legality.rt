@@ -13,6 +13,7 @@ use circuit::limits::MOVE_BYTES;
 use circuit::limits::Parity;
 use columns::column;
 use columns::lowest;
+use columns::table::products;
 
 // What stands before Y in the bytes of a move: z and the number in Y.
 const HEAD: usize = MOVE_BYTES - MAX_MEMBERS;
@@ -159,11 +160,12 @@ fn is_balanced(z: Parity, ys: &[u8]) -> bool
     requires { ⌜ z ≢ 0 ⌝ }
     ensures { λ r. ⌜ Decides r (Balanced maxWires z (now (ys .entry))) ⌝ }
 {
+    let table = products();
     let t = lowest(z);
     let mut sum: u64 = 0;
     let mut i: usize = 0;
     while i < ys.len() {
-        sum ^= column(z, t, ys[i]);
+        sum ^= column(&table, z, t, ys[i]);
         i += 1;
     }
     sum == 0

@@ -6,12 +6,12 @@ use Prim.Native.Nat.{_*_, _+_, _<_, _^_, suc, ℕ}
 use native.Mathlib.Omega.{arith}
 use lib.Dec.{T, eqb, eqb→eq, ltb, ltb→lt}
 use lib.ListN.{getD, length}
-use Rattle.circuit.specs.Limits.{maxWires, productBits}
+use Rattle.circuit.specs.Limits.{maxWires, productBits, weightBytes}
 use Rattle.gf2.specs.Bit.{bit}
 use Rattle.moves.proofs.Products.{product-by-bits}
 use Rattle.moves.specs.Product.{product, tri}
 use Rattle.columns.proofs.Computed.{below, below-at, both, both-left, both-right, every, every-at}
-use Rattle.columns.specs.Table.{ProductEntry}
+use Rattle.columns.specs.Table.{ProductEntry, ProductTable}
 
 -- the rule for i and j, of entry p
 unfoldable pub pairRight : ℕ → ℕ → ℕ → ℕ → Bool
@@ -32,6 +32,10 @@ entry-at xs t p h =
           eqb→eq _ _ (below-at (pairRight p x j) (suc j)
           (below-at (λ j. below (pairRight p x j) (suc j)) maxWires (both-right (ltb x (2 ^ productBits)) _ e) j l) i (omega arith));
     }
+
+-- a list of this many entries that passes the test is the product table
+pub table-by : (xs : List ℕ) → length xs ≡ weightBytes → T (every entryRight 0 xs) → ProductTable xs
+table-by xs e t = record { long = e; entries = λ p h. entry-at xs t p (rw e h) }
 
 -- a number with this rule is the entry
 pub entry-is : (p r : ℕ) → ProductEntry p r → r ≡ product maxWires p

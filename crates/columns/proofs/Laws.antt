@@ -1,20 +1,26 @@
 -- The laws of columns on one page: what the contracts of the crate's functions mean. The proofs are in the modules named.
+use mathlib.Core.List.{List}
 use mathlib.Core.Logic.{_≢_}
 use mathlib.Core.Path.{_≡_}
 use Prim.Native.Nat.{_<_, _^_, _≤_, ℕ}
 use lib.Count.{trailingZeros}
-use Rattle.circuit.specs.Limits.{maxWires}
+use lib.ListN.{getD}
+use Rattle.circuit.specs.Limits.{maxWires, weightBytes}
 use Rattle.gf2.proofs.Leading.{lowest}
 use Rattle.gf2.specs.Bit.{bit}
 use Rattle.moves.specs.Kappa.{kappa}
 use Rattle.moves.specs.Product.{product}
 use Rattle.columns.proofs.Entries.{entry-is}
 use Rattle.columns.proofs.Wires.{kappa-wires}
-use Rattle.columns.specs.Table.{ProductEntry}
+use Rattle.columns.specs.Table.{ProductEntry, ProductTable}
 
 -- `product`: 36 bits with this rule are the product entry
 pub entry-is-product : (p r : ℕ) → ProductEntry p r → r ≡ product maxWires p
 entry-is-product = entry-is
+
+-- `products`: entry p of the table is that of p
+pub table-is-products : (products : List ℕ) → ProductTable products → (p : ℕ) → p < weightBytes → getD products p 0 ≡ product maxWires p
+table-is-products products table p h = entry-is p (getD products p 0) (table .entries p h)
 
 -- `column`: that of n wires is the same
 pub column-on-fewer-wires : (n z t y : ℕ) → n ≤ maxWires → z < 2 ^ n → y < 2 ^ n → kappa maxWires z t y ≡ kappa n z t y

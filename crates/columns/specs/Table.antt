@@ -1,7 +1,9 @@
--- Document 01, "Signature": what an entry of the product table is, read off its bits.
+-- Document 01, "Signature": what the product table is, read off the bits of its entries.
+use mathlib.Core.List.{List}
 use mathlib.Core.Path.{_≡_}
 use Prim.Native.Nat.{_*_, _+_, _<_, _^_, _≤_, ℕ}
-use Rattle.circuit.specs.Limits.{maxWires, productBits}
+use lib.ListN.{getD, length}
+use Rattle.circuit.specs.Limits.{maxWires, productBits, weightBytes}
 use Rattle.gf2.specs.Bit.{bit}
 use Rattle.moves.specs.Product.{tri}
 
@@ -9,3 +11,8 @@ use Rattle.moves.specs.Product.{tri}
 pub record ProductEntry (p r : ℕ) : Type 0 where
   pub fits : r < 2 ^ productBits
   pub rule : (i j : ℕ) → i ≤ j → j < maxWires → bit r (tri j + i) ≡ bit p i * bit p j
+
+-- the product table has weightBytes entries, entry p that of parity p
+pub record ProductTable (products : List ℕ) : Type 0 where
+  pub long : length products ≡ weightBytes
+  pub entries : (p : ℕ) → p < weightBytes → ProductEntry p (getD products p 0)

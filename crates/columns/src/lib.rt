@@ -6,21 +6,24 @@ ghost use lib.Count.{trailingZeros};
 ghost use Rattle.circuit.specs.Limits.{maxWires, productBits};
 ghost use Rattle.moves.specs.Kappa.{kappa};
 ghost use Rattle.moves.specs.Product.{tri};
+ghost use Rattle.columns.specs.Table.{ProductTable};
 
 pub mod table;
 
 use circuit::limits::Parity;
+use circuit::limits::WEIGHT_BYTES;
 use table::product;
 
 // The column of y for z and its wire t: the product entry of y or, where y names t, of y ^ z, with the bit of (t, t) then set.
-pub fn column(z: Parity, t: usize, y: Parity) -> u64
+pub fn column(products: &[u64; WEIGHT_BYTES], z: Parity, t: usize, y: Parity) -> u64
+    requires { ⌜ ProductTable (now products) ⌝ }
     requires { ⌜ t < maxWires ⌝ }
     ensures { λ r. ⌜ (r ≡ kappa maxWires z t y) × (r < 2 ^ productBits) ⌝ }
 {
     if (y >> t) % 2 == 0 {
-        return product(y);
+        return product(products, y);
     }
-    product(y ^ z) ^ (1 << place(t, t))
+    product(products, y ^ z) ^ (1 << place(t, t))
 }
 
 // The place of the pair of wires i <= j in a product entry.

@@ -14,6 +14,7 @@ use circuit::faults::lent_fault;
 use circuit::limits::MOVE_BYTES;
 use circuit::limits::Parity;
 use circuit::limits::WEIGHT_BYTES;
+use columns::table::products;
 use kernel::Offered;
 use members::gather;
 use scan::scan_pairs;
@@ -47,13 +48,14 @@ pub fn find(n: usize, marks: &[u8], forty: &mut [u8]) -> Finding
     }
 }
 
-// The members are gathered once, so that the scan goes through them alone.
+// The product table is made and the members are gathered once, so that the scan reads the one and goes through the others alone.
 fn search(marks: &[u8], forty: &mut [u8]) -> Offered
     requires { ⌜ SoundMarks weightBytes maxWires (now marks) ⌝ }
     requires { ⌜ length (now forty) ≡ moveBytes ⌝ }
     ensures { λ r. ⌜ Searched (now (marks .entry)) (now (forty .entry)) (now (forty .exit)) r ⌝ }
 {
+    let table = products();
     let mut list = [0 as Parity; WEIGHT_BYTES];
     let count = gather(marks, &mut list);
-    scan_pairs(&list[..count], forty)
+    scan_pairs(&table, &list[..count], forty)
 }

@@ -2,14 +2,17 @@
 ghost use Prim.Native.Nat.{_<_};
 ghost use lib.ListN.{length};
 ghost use Rattle.circuit.specs.Limits.{maxWires};
+ghost use Rattle.columns.specs.Table.{ProductTable};
 ghost use Rattle.kernel.specs.Answers.{Built, Empty};
 use circuit::limits::PRODUCT_BITS;
 use circuit::limits::Parity;
+use circuit::limits::WEIGHT_BYTES;
 use columns::column;
 use echelon::insert;
 
 // The columns of the members but a and b, for z and its wire t.
 pub fn build(
+    products: &[u64; WEIGHT_BYTES],
     ys: &[Parity],
     a: Parity,
     b: Parity,
@@ -19,6 +22,7 @@ pub fn build(
     mask: &mut [u64; PRODUCT_BITS],
     member: &mut [Parity; PRODUCT_BITS],
 )
+    requires { ⌜ ProductTable (now products) ⌝ }
     requires { ⌜ t < maxWires ⌝ }
     requires { ⌜ Empty (now vec) (now mask) (now member) ⌝ }
     ensures { λ _. ⌜ Built (length (now (ys .entry))) (now (ys .entry)) a b z t (now (vec .exit)) (now (mask .exit)) (now (member .exit)) ⌝ }
@@ -29,7 +33,7 @@ pub fn build(
         i += 1;
         if y != a {
             if y != b {
-                insert(y, column(z, t, y), vec, mask, member);
+                insert(y, column(products, z, t, y), vec, mask, member);
             }
         }
     }

@@ -5,6 +5,7 @@ ghost use mathlib.Core.Path.{_≡_};
 ghost use Prim.Native.Nat.{_<_};
 ghost use lib.ListN.{length};
 ghost use Rattle.circuit.specs.Limits.{maxWires, moveBytes};
+ghost use Rattle.columns.specs.Table.{ProductTable};
 ghost use Rattle.echelon.specs.Slots.{Slots};
 ghost use Rattle.moves.specs.Sets.{In};
 ghost use Rattle.kernel.specs.Answers.{Asked, AskedBoth, Offers};
@@ -16,6 +17,7 @@ pub mod spelling;
 use basis::build;
 use circuit::limits::PRODUCT_BITS;
 use circuit::limits::Parity;
+use circuit::limits::WEIGHT_BYTES;
 use columns::column;
 use columns::lowest;
 use echelon::Reduced;
@@ -30,7 +32,14 @@ pub enum Offered {
 }
 
 // What members a and b offer. One basis serves for both ways round.
-pub fn offer(ys: &[Parity], a: Parity, b: Parity, bytes: &mut [u8]) -> Offered
+pub fn offer(
+    products: &[u64; WEIGHT_BYTES],
+    ys: &[Parity],
+    a: Parity,
+    b: Parity,
+    bytes: &mut [u8],
+) -> Offered
+    requires { ⌜ ProductTable (now products) ⌝ }
     requires { ⌜ Members (now ys) ⌝ }
     requires { ⌜ (In a (now ys)) × (In b (now ys)) × (a ≢ b) ⌝ }
     requires { ⌜ length (now bytes) ≡ moveBytes ⌝ }
@@ -41,12 +50,13 @@ pub fn offer(ys: &[Parity], a: Parity, b: Parity, bytes: &mut [u8]) -> Offered
     let mut vec = [0u64; PRODUCT_BITS];
     let mut mask = [0u64; PRODUCT_BITS];
     let mut member = [0 as Parity; PRODUCT_BITS];
-    build(ys, a, b, z, t, &mut vec, &mut mask, &mut member);
-    both(z, t, a, b, &vec, &mask, &member, bytes)
+    build(products, ys, a, b, z, t, &mut vec, &mut mask, &mut member);
+    both(products, z, t, a, b, &vec, &mask, &member, bytes)
 }
 
 // a in the set and b out of it; then b in and a out.
 fn both(
+    products: &[u64; WEIGHT_BYTES],
     z: Parity,
     t: usize,
     a: Parity,
@@ -56,19 +66,21 @@ fn both(
     member: &[Parity; PRODUCT_BITS],
     bytes: &mut [u8],
 ) -> Offered
+    requires { ⌜ ProductTable (now products) ⌝ }
     requires { ⌜ t < maxWires ⌝ }
     requires { ⌜ Slots (now vec) (now mask) (now member) ⌝ }
     requires { ⌜ length (now bytes) ≡ moveBytes ⌝ }
     ensures { λ r. ⌜ AskedBoth z t a b (now (vec .entry)) (now (mask .entry)) (now (member .entry)) (now (bytes .entry)) (now (bytes .exit)) r ⌝ }
 {
-    match ask(z, t, a, vec, mask, member, bytes) {
+    match ask(products, z, t, a, vec, mask, member, bytes) {
         Offered::Separating => Offered::Separating,
-        Offered::Nothing => ask(z, t, b, vec, mask, member, bytes),
+        Offered::Nothing => ask(products, z, t, b, vec, mask, member, bytes),
     }
 }
 
 // Whether the column of a is the xor of columns in the slots; if so, their members make the set with a.
 fn ask(
+    products: &[u64; WEIGHT_BYTES],
     z: Parity,
     t: usize,
     a: Parity,
@@ -77,12 +89,13 @@ fn ask(
     member: &[Parity; PRODUCT_BITS],
     bytes: &mut [u8],
 ) -> Offered
+    requires { ⌜ ProductTable (now products) ⌝ }
     requires { ⌜ t < maxWires ⌝ }
     requires { ⌜ Slots (now vec) (now mask) (now member) ⌝ }
     requires { ⌜ length (now bytes) ≡ moveBytes ⌝ }
     ensures { λ r. ⌜ Asked z t a (now (vec .entry)) (now (mask .entry)) (now (member .entry)) (now (bytes .entry)) (now (bytes .exit)) r ⌝ }
 {
-    match reduce(vec, mask, column(z, t, a)) {
+    match reduce(vec, mask, column(products, z, t, a)) {
         Reduced::Dependent { mask: m } => {
             write_move(z, a, m, member, bytes);
             Offered::Separating

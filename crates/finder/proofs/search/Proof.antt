@@ -6,6 +6,9 @@ use Rattle.finder.proofs.Listing.{gathered-length, gathered-members, ga
 use Rattle.finder.proofs.search.Statement.{statement}
 use Rattle.finder.proofs.search.Tie as tie
 
+products-requires : tie.Need-products-requires
+products-requires c κs = search needs
+
 gather-requires : tie.Need-gather-requires
 gather-requires c κs = search needs
 
@@ -13,23 +16,32 @@ array-share-prefix-list : tie.Need-array-share-prefix-list
 array-share-prefix-list c = search needs
 
 slice-aggregate-scan-pairs : tie.Need-slice-aggregate-scan-pairs
-slice-aggregate-scan-pairs c = sym (gathered-length (now (c .before .before .before .before .before .args .marks)) (c .before .gather .last .1 .0) (c .before .gather .result) (c .before .before .before .before .before .pre .0) (c .before .gather .ensures))
+slice-aggregate-scan-pairs c =
+    let s = c .before .before .before .before .before .before .before in
+    let g = c .before .before .gather in
+    sym (gathered-length (now (s .args .marks)) (g .last .1 .0) (g .result) (s .pre .0) (g .ensures))
 
 scan-pairs-requires : tie.Need-scan-pairs-requires
-scan-pairs-requires c κs = (gathered-members (now (c .before .before .before .before .before .before .args .marks)) (c .before .before .gather .last .1 .0) (c .before .before .gather .result) (c .before .before .before .before .before .before .pre .0) (c .before .before .gather .ensures), c .before .before .before .before .before .before .pre .1)
+scan-pairs-requires c κs =
+    let s = c .before .before .before .before .before .before .before .before in
+    let g = c .before .before .before .gather in
+    (c .before .before .before .before .before .products .ensures, (gathered-members (now (s .args .marks)) (g .last .1 .0) (g .result) (s .pre .0) (g .ensures), s .pre .1))
 
 same-length : tie.Need-same-length
 same-length c = search needs
 
 returns : tie.Need-returns
 returns c =
+    let s = c .before .before .before .before .before .before .before .before .before .before .before in
+    let g = c .before .before .before .before .before .before .gather in
     let r = c .before .before .scan-pairs in
-    gathered-search (now (c .before .before .before .before .before .before .before .before .before .args .marks)) (c .before .before .before .before .before .gather .last .1 .0) (c .before .before .before .before .before .gather .result) (c .before .before .before .before .before .before .before .before .before .pre .0) (c .before .before .before .before .before .gather .ensures) (now (c .before .before .before .before .before .before .before .before .before .args .forty)) (r .last .1 .0) (r .result) (r .ensures)
+    gathered-search (now (s .args .marks)) (g .last .1 .0) (g .result) (s .pre .0) (g .ensures) (now (s .args .forty)) (r .last .1 .1 .0) (r .result) (r .ensures)
 
 pub search-spec : {M : Type 1} → statement M
 search-spec =
     tie.close
     (tie.spec
+    products-requires
     gather-requires
     array-share-prefix-list
     slice-aggregate-scan-pairs

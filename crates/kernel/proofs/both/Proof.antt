@@ -19,7 +19,7 @@ enum-told-2 c = search needs
 ask-requires-2 : tie.Need-ask-requires-2
 ask-requires-2 c κs =
     let s = c .before .before .before .before .before .before .before .before in
-    (s .pre .0, (s .pre .1 .0, c .before .before .before .before .before .ask .kept .1 .1 .1 .1 .1 .1 .0 ∙ s .pre .1 .1))
+    (s .pre .0, (s .pre .1 .0, (s .pre .1 .1 .0, c .before .before .before .before .before .ask .kept .1 .1 .1 .1 .1 .1 .1 .0 ∙ s .pre .1 .1 .1)))
 
 same-length : tie.Need-same-length
 same-length c = search needs
@@ -35,7 +35,7 @@ returns-2 c =
     let a = c .before .before .before .before .before .before .before .before .before .before .before .args in
     let first = c .before .before .before .before .before .before .before .before .ask in
     let second = c .before .before .ask2 in
-    asked-after (a .z) (a .t) (a .a) (a .b) (now (a .vec)) (now (a .mask)) (now (a .member)) (now (a .bytes)) (first .last .1 .1 .1 .1 .1 .1 .0) (second .last .1 .1 .1 .1 .1 .1 .0)
+    asked-after (a .z) (a .t) (a .a) (a .b) (now (a .vec)) (now (a .mask)) (now (a .member)) (now (a .bytes)) (first .last .1 .1 .1 .1 .1 .1 .1 .0) (second .last .1 .1 .1 .1 .1 .1 .1 .0)
     (rw (c .before .before .before .before .enum-told2 .given .1) at (first .ensures)) (second .result) (second .ensures)
 
 pub both-spec : {M : Type 1} → statement M

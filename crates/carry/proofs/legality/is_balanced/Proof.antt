@@ -14,10 +14,13 @@ use Rattle.carry.proofs.legality.is_balanced.Statement.{statement}
 use Rattle.carry.proofs.legality.is_balanced.Tie as tie
 
 abbrev Inv-loop : tie.InvT-loop
-Inv-loop z ys t sum₀ i₀ sum i = (i ≤ length ys) × XorTo (kappa maxWires z t) ys i sum (xorAll (map (kappa maxWires z t) ys))
+Inv-loop z ys table t sum₀ i₀ sum i = (i ≤ length ys) × XorTo (kappa maxWires z t) ys i sum (xorAll (map (kappa maxWires z t) ys))
 
 abbrev μ-loop : tie.MeasureT-loop
-μ-loop z ys t sum₀ i₀ sum i = length ys - i
+μ-loop z ys table t sum₀ i₀ sum i = length ys - i
+
+products-requires : tie.Need-products-requires Inv-loop μ-loop
+products-requires c κs = search needs
 
 lowest-requires : tie.Need-lowest-requires Inv-loop μ-loop
 lowest-requires c κs = search needs
@@ -30,8 +33,9 @@ shared-slice-read-column c = search needs
 
 column-requires : tie.Need-column-requires Inv-loop μ-loop
 column-requires c κs =
-    let a = c .before .before .before .before .before .args in
-    wire-lt maxWires (a .z) (c .before .before .before .lowest .result) (c .before .before .before .lowest .ensures) (c .before .before .before .before .before .pre) (omega arith)
+    let s = c .before .before .before .before .before .before .before in
+    let l = c .before .before .before .before .lowest in
+    (c .before .before .before .before .before .products .ensures, wire-lt maxWires (s .args .z) (l .result) (l .ensures) (s .pre) (omega arith))
 
 add-i : tie.Need-add-i Inv-loop μ-loop
 add-i c = search needs
@@ -41,22 +45,22 @@ loop-less c = search needs
 
 loop-again : tie.Need-loop-again Inv-loop μ-loop
 loop-again c =
-    let a = c .before .before .before .before .before .before .args in
-    let at = c .before .before .before .loop in
-    let f = kappa maxWires (a .z) (c .before .before .before .before .lowest .result) in (
+    let a = c .before .before .before .before .before .before .before .before .args in
+    let at = c .before .before .before .before .loop in
+    let f = kappa maxWires (a .z) (c .before .before .before .before .before .lowest .result) in (
       search needs,
-      xor-next f (now (a .ys)) (at .i) (at .sum) (c .column .result) (xorAll (map f (now (a .ys)))) (c .before .before .loop-test .taken) (c .column .ensures .0) (at .inv .1),
+      xor-next f (now (a .ys)) (at .i) (at .sum) (c .column .result) (xorAll (map f (now (a .ys)))) (c .before .before .before .loop-test .taken) (c .column .ensures .0) (at .inv .1),
     )
 
 returns : tie.Need-returns Inv-loop μ-loop
 returns c =
-    let a = c .before .before .before .before .args in
+    let s = c .before .before .before .before .before in
     let at = c .before .loop in
-    let ys = now (a .ys) in
-    let t = c .before .before .lowest .result in
-    let f = kappa maxWires (a .z) t in
-    balanced-by-xor maxWires (a .z) t (c .before .before .lowest .ensures) (c .before .before .before .before .pre) (omega arith) ys (at .sum)
-    (λ i l. omega (arith, c .before .before .before .shared-slice-known .given i)) (xor-end f ys (at .i) (at .sum) (xorAll (map f ys)) (omega arith) (at .inv .1))
+    let ys = now (s .args .ys) in
+    let l = c .before .before .lowest in
+    let f = kappa maxWires (s .args .z) (l .result) in
+    balanced-by-xor maxWires (s .args .z) (l .result) (l .ensures) (s .pre) (omega arith) ys (at .sum)
+    (λ i h. omega (arith, c .before .before .before .before .shared-slice-known .given i)) (xor-end f ys (at .i) (at .sum) (xorAll (map f ys)) (omega arith) (at .inv .1))
 
 pub is-balanced-spec : {M : Type 1} → statement M
 is-balanced-spec =
@@ -64,6 +68,7 @@ is-balanced-spec =
     (tie.spec
     Inv-loop
     μ-loop
+    products-requires
     lowest-requires
     loop-holds
     shared-slice-read-column

@@ -12,16 +12,16 @@ use Rattle.finder.proofs.scan.scan_pairs.Statement.{statement}
 use Rattle.finder.proofs.scan.scan_pairs.Tie as tie
 
 abbrev Inv-loop : tie.InvT-loop
-Inv-loop ys bytes₀ m best₀ a b₀ bytes best b = (best ≡ Nothing) × (bytes ≡ bytes₀) × (b ≤ m) × (a < b) × ((j : ℕ) → j < b → a < j → Passed ys a j)
+Inv-loop products ys bytes₀ m best₀ a b₀ bytes best b = (best ≡ Nothing) × (bytes ≡ bytes₀) × (b ≤ m) × (a < b) × ((j : ℕ) → j < b → a < j → Passed ys a j)
 
 abbrev μ-loop : tie.MeasureT-loop
-μ-loop ys bytes₀ m best₀ a b₀ bytes best b = m - b
+μ-loop products ys bytes₀ m best₀ a b₀ bytes best b = m - b
 
 abbrev Inv-pairs : tie.InvT-pairs
-Inv-pairs ys bytes₀ m best₀ a₀ bytes best a = (best ≡ Nothing) × (bytes ≡ bytes₀) × (a ≤ m) × ((i : ℕ) → i < a → (j : ℕ) → j < m → i < j → Passed ys i j)
+Inv-pairs products ys bytes₀ m best₀ a₀ bytes best a = (best ≡ Nothing) × (bytes ≡ bytes₀) × (a ≤ m) × ((i : ℕ) → i < a → (j : ℕ) → j < m → i < j → Passed ys i j)
 
 abbrev μ-pairs : tie.MeasureT-pairs
-μ-pairs ys bytes₀ m best₀ a₀ bytes best a = m - a
+μ-pairs products ys bytes₀ m best₀ a₀ bytes best a = m - a
 
 pairs-holds : tie.Need-pairs-holds Inv-loop μ-loop Inv-pairs μ-pairs
 pairs-holds c = (refl, refl, omega arith, below-none _)
@@ -46,8 +46,8 @@ offer-requires c κs =
     let b = c .before .before .before .before .loop .b in
     let la : a < length ys = omega arith in
     let lb : b < length ys = omega arith in
-    let long = ap length (c .before .before .before .before .loop .inv .1 ∙ c .before .before .before .before .before .before .pairs .inv .1) ∙ s .pre .1 in
-    (s .pre .0, (((a, la, refl), (b, lb, refl), λ e. omega (arith, later-larger ys (s .pre .0 .ordered) a b (c .before .before .before .before .loop .inv .3) lb)), long))
+    let long = ap length (c .before .before .before .before .loop .inv .1 ∙ c .before .before .before .before .before .before .pairs .inv .1) ∙ s .pre .1 .1 in
+    (s .pre .0, (s .pre .1 .0, (((a, la, refl), (b, lb, refl), λ e. omega (arith, later-larger ys (s .pre .1 .0 .ordered) a b (c .before .before .before .before .loop .inv .3) lb)), long)))
 
 enum-told : tie.Need-enum-told Inv-loop μ-loop Inv-pairs μ-pairs
 enum-told c = search needs
@@ -66,7 +66,7 @@ loop-again c =
     let at = c .before .before .before .before .before .before .before .before .before .loop in
     let o = c .before .before .before .before .offer in
     let ys = now (c .before .before .before .before .before .before .before .before .before .before .before .before .before .before .args .ys) in
-    let t = pair-passed ys (c .before .before .before .before .before .before .before .before .before .before .before .pairs .a) (at .b) (at .bytes) (o .last .1 .1 .1 .0) (o .result) (c .enum-told2 .given .1) (o .ensures) in
+    let t = pair-passed ys (c .before .before .before .before .before .before .before .before .before .before .before .pairs .a) (at .b) (at .bytes) (o .last .1 .1 .1 .1 .0) (o .result) (c .enum-told2 .given .1) (o .ensures) in
     (at .inv .0, t .0 ∙ at .inv .1, omega arith, omega arith, below-more _ _ (at .inv .4) (λ g. t .1))
 
 add-a : tie.Need-add-a Inv-loop μ-loop Inv-pairs μ-pairs
@@ -88,10 +88,10 @@ returns : tie.Need-returns Inv-loop μ-loop Inv-pairs μ-pairs
 returns c =
     let at = c .before .pairs in
     let s = c .before .before .before .before in
-    rw (at .inv .0) (at .inv .1, all-passed (now (s .args .ys)) (s .pre .0) (λ i l. at .inv .3 i (omega arith)))
+    rw (at .inv .0) (at .inv .1, all-passed (now (s .args .ys)) (s .pre .1 .0) (λ i l. at .inv .3 i (omega arith)))
 
 same-length-2 : tie.Need-same-length-2 Inv-loop μ-loop Inv-pairs μ-pairs
-same-length-2 c = c .before .before .before .before .offer .kept .1 .1 .1 .0 ∙ ap length (c .before .before .before .before .before .before .before .before .before .loop .inv .1 ∙ c .before .before .before .before .before .before .before .before .before .before .before .pairs .inv .1)
+same-length-2 c = c .before .before .before .before .offer .kept .1 .1 .1 .1 .0 ∙ ap length (c .before .before .before .before .before .before .before .before .before .loop .inv .1 ∙ c .before .before .before .before .before .before .before .before .before .before .before .pairs .inv .1)
 
 returns-2 : tie.Need-returns-2 Inv-loop μ-loop Inv-pairs μ-pairs
 returns-2 c =

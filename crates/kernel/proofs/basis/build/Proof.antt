@@ -15,15 +15,15 @@ use Rattle.kernel.proofs.basis.build.Statement.{statement}
 use Rattle.kernel.proofs.basis.build.Tie as tie
 
 abbrev Inv-loop : tie.InvT-loop
-Inv-loop ys a b z t vec₀ mask₀ member₀ i₀ vec mask member i = (i ≤ length ys) × Built i ys a b z t vec mask member
+Inv-loop products ys a b z t vec₀ mask₀ member₀ i₀ vec mask member i = (i ≤ length ys) × Built i ys a b z t vec mask member
 
 abbrev μ-loop : tie.MeasureT-loop
-μ-loop ys a b z t vec₀ mask₀ member₀ i₀ vec mask member i = length ys - i
+μ-loop products ys a b z t vec₀ mask₀ member₀ i₀ vec mask member i = length ys - i
 
 loop-holds : tie.Need-loop-holds Inv-loop μ-loop
 loop-holds c =
     let a = c .before .args in
-    let e = c .before .pre .1 in
+    let e = c .before .pre .1 .1 in
     (search needs, rest-none productBits (kappa maxWires (a .z) (a .t)) (now (a .ys)) (a .a) (a .b) (now (a .vec)) (now (a .mask)) (now (a .member)) (e .vecs) (e .masks) (e .members))
 
 shared-slice-read-y : tie.Need-shared-slice-read-y Inv-loop μ-loop
