@@ -1,5 +1,7 @@
 //! One call of an entry, held against the reference: reply, every lent byte, and the guards around them.
 
+#[cfg(feature = "program")]
+pub mod answering;
 #[cfg(feature = "moves")]
 pub mod moves;
 #[cfg(feature = "text")]

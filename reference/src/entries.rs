@@ -1,5 +1,7 @@
 //! The proved library's C functions, each behind a safe function that lends slices.
 
+#[cfg(feature = "program")]
+pub mod answering;
 #[cfg(feature = "moves")]
 pub mod moves;
 #[cfg(feature = "text")]

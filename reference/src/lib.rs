@@ -10,10 +10,10 @@
 //! - [`coefficients`], [`new_weights`]: signed sums over all parities; the even rest, found by trying its values.
 //! - [`moves`], [`existence`]: legality word for word; whether a legal move exists, by solving its conditions.
 //! - [`writing`], [`trimming`]: what must hold of a written list, and demand 3 of a trim.
-//! - [`text`]: the text form, split at its newlines.
+//! - [`text`]: the text form, split at its newlines. [`printing`]: what the program prints for a text.
 //! - [`faults`]: the table of faults and the order of checks.
 //! - [`demands`]: what must hold of any answer, whatever made it.
-//! - [`entries`]: the proved library's C functions.
+//! - [`entries`]: the proved library's C functions. [`program`]: the proved program, run as a process.
 //! - [`lent`], [`comparison`]: lent buffers with guards around them; one call, held against the reference.
 //! - [`random`]: the generator and the random circuits, weights, odd sets and rows.
 //! - [`fast`], [`published`]: for the benchmark, a trimmer built for speed and the published search taken literally. The
@@ -21,7 +21,8 @@
 //!
 //! The comparisons stand in `tests/`. With the library made by `rt staticlib capi` in the repository's root, run
 //! `cargo test --release --offline` here. Each group of C functions is compared once its feature is on: `weights`,
-//! `moves`, `writing`, `trim`, `text`. Tests named `own_` call no C function: there the reference is held against itself.
+//! `moves`, `writing`, `trim`, `text`, and `program` for the whole reply to a text, in C and by the program, which
+//! `rt check trim` makes. Tests named `own_` call no C function: there the reference is held against itself.
 
 pub mod coefficients;
 pub mod comparison;
@@ -36,6 +37,9 @@ pub mod moves;
 pub mod new_weights;
 pub mod odd_set;
 pub mod parity;
+pub mod printing;
+#[cfg(feature = "program")]
+pub mod program;
 pub mod published;
 pub mod random;
 pub mod reading;

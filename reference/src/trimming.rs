@@ -6,7 +6,7 @@ use crate::faults;
 use crate::gates::GATE_BYTES;
 use crate::moves::{members, replay, MOVE_BYTES};
 use crate::new_weights::{has_the_shape, new_weights};
-use crate::odd_set::{odd_set, size, t_count};
+use crate::odd_set::{odd_set, size, t_count, Marks};
 use crate::reading;
 use crate::running::run;
 
@@ -26,6 +26,14 @@ pub struct Counts {
 /// Holds D, the log and the counts of an accepted C against demand 3. `d` has all of D's gates and nothing else, `log`
 /// all of the logged moves and nothing else. Answers the first part that fails.
 pub fn check_trim(n: usize, c: &[u8], d: &[u8], log: &[u8], counts: &Counts) -> Result<(), String> {
+    let (odd_from, odd_to) = check_without_log(n, c, d, counts)?;
+    let last = replay(n, &odd_from, log, counts.moves)?;
+    demand(last == odd_to, || format!("the moves end at {:?}, D has {:?}", members(&last), members(&odd_to)))?;
+    demand(log.len() == MOVE_BYTES * counts.moves, || format!("{} bytes of {} moves", log.len(), counts.moves))
+}
+
+/// All of demand 3 that shows without the log. Answers the odd sets of C and of D, or the first part that fails.
+pub fn check_without_log(n: usize, c: &[u8], d: &[u8], counts: &Counts) -> Result<(Marks, Marks), String> {
     same_on_every_state(n, c, d)?;
     let (from, to) = (reading::read(n, c), reading::read(n, d));
     let (odd_from, odd_to) = (odd_set(&from.weights), odd_set(&to.weights));
@@ -36,19 +44,18 @@ pub fn check_trim(n: usize, c: &[u8], d: &[u8], log: &[u8], counts: &Counts) -> 
     demand(t_count(d) <= t_count(c), || format!("{} T gates out of {}", t_count(d), t_count(c)))?;
     demand(t_count(d) <= (n * n + n) / 2 + 1, || format!("{} T gates on {n} wires", t_count(d)))?;
 
-    let last = replay(n, &odd_from, log, counts.moves)?;
-    demand(last == odd_to, || format!("the moves end at {:?}, D has {:?}", members(&last), members(&odd_to)))?;
     demand(has_the_shape(&to.weights, &odd_to), || format!("D's weights lack the shape: {:?}", to.weights))?;
     let due = new_weights(n, &from.weights, &odd_to);
     demand(due == Some(to.weights), || format!("D's weights are {:?}, due are {due:?}", to.weights))?;
     let left = existence::find(n, &odd_to);
     demand(left.is_none(), || format!("a legal move is left: {left:?} on {:?}", members(&odd_to)))?;
 
-    demand(log.len() == MOVE_BYTES * counts.moves, || format!("{} bytes of {} moves", log.len(), counts.moves))?;
     demand(d.len() == GATE_BYTES * counts.gates, || format!("{} bytes of {} gates", d.len(), counts.gates))?;
     demand(counts.t_in == t_count(c), || format!("C has {} T gates, reported {}", t_count(c), counts.t_in))?;
     demand(counts.odd_size == size(&odd_from), || format!("C's odd set: {}", size(&odd_from)))?;
-    demand(counts.moves + counts.t_out <= counts.odd_size, || format!("too many moves: {counts:?}"))
+    demand(counts.moves + counts.t_out <= counts.odd_size, || format!("too many moves: {counts:?}"))?;
+    demand(counts.moves > 0 || odd_from == odd_to, || format!("no move, and {:?} is left", members(&odd_to)))?;
+    Ok((odd_from, odd_to))
 }
 
 /// D is accepted and sends each basis state to the same state with the same phase as C.

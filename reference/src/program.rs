@@ -1,0 +1,108 @@
+//! The proved program `trim`, run as a process.
+//!
+//! It stands in `target/bin` of the repository's root, where `rt check trim` makes it. The variable SULMEDRA_PROGRAM
+//! names another file to run.
+
+use std::fs::File;
+use std::io::{ErrorKind, Read, Write};
+use std::path::PathBuf;
+use std::process::{Child, ChildStdin, Command, Stdio};
+use std::sync::mpsc::{channel, Receiver};
+use std::thread;
+use std::time::Duration;
+use std::{env, io};
+
+/// Longer than any run may take. A run that takes longer is ended, and the test fails.
+const PATIENCE: Duration = Duration::from_secs(60);
+
+/// Runs the program on these pieces, one write for each with a pause after it, and then the end of its input. Answers
+/// all of its output. It may stop reading before the end.
+pub fn run_on_pieces(pieces: &[&[u8]], pause: Duration) -> Vec<u8> {
+    let mut child = start(Stdio::piped());
+    let input = child.stdin.take().expect("the input is a pipe");
+    thread::scope(|threads| {
+        threads.spawn(move || feed(input, pieces, pause).map(drop));
+        finish(child)
+    })
+}
+
+/// Runs the program on a text in one piece.
+pub fn run(text: &[u8]) -> Vec<u8> {
+    run_on_pieces(&[text], Duration::ZERO)
+}
+
+/// Runs the program on a text whose end never comes: the pipe stays open until the program has ended by itself.
+pub fn run_without_end(text: &[u8]) -> Vec<u8> {
+    let mut child = start(Stdio::piped());
+    let input = child.stdin.take().expect("the input is a pipe");
+    thread::scope(|threads| {
+        let fed = threads.spawn(move || feed(input, &[text], Duration::ZERO));
+        let printed = finish(child);
+        drop(fed.join());
+        printed
+    })
+}
+
+/// Runs the program with a file as its input.
+pub fn run_on_file(path: &str) -> Vec<u8> {
+    let file = File::open(path).unwrap_or_else(|error| panic!("{path}: {error}"));
+    finish(start(Stdio::from(file)))
+}
+
+fn start(input: Stdio) -> Child {
+    let path = program();
+    let child = Command::new(&path).stdin(input).stdout(Stdio::piped()).stderr(Stdio::piped()).spawn();
+    child.unwrap_or_else(|error| {
+        panic!("{}: {error}; run `rt check trim` in the repository's root first", path.display())
+    })
+}
+
+fn program() -> PathBuf {
+    if let Some(path) = env::var_os("SULMEDRA_PROGRAM") {
+        return PathBuf::from(path);
+    }
+    PathBuf::from(env!("CARGO_MANIFEST_DIR")).join("..").join("target").join("bin").join("trim")
+}
+
+/// Writes the pieces and gives the pipe back. The other side may close it before all is written.
+fn feed(mut input: ChildStdin, pieces: &[&[u8]], pause: Duration) -> Option<ChildStdin> {
+    for piece in pieces {
+        match input.write_all(piece) {
+            Err(error) if error.kind() == ErrorKind::BrokenPipe => return None,
+            written => written.expect("the program's input takes what is written"),
+        }
+        if !pause.is_zero() {
+            thread::sleep(pause);
+        }
+    }
+    Some(input)
+}
+
+/// All of the output of a program that ends by itself, with status 0 and nothing on its error output.
+fn finish(mut child: Child) -> Vec<u8> {
+    let output = all_of(child.stdout.take().expect("the output is a pipe"));
+    let errors = all_of(child.stderr.take().expect("the error output is a pipe"));
+    let printed = output.recv_timeout(PATIENCE);
+    let Ok((printed, complaint)) = printed.and_then(|printed| Ok((printed, errors.recv_timeout(PATIENCE)?))) else {
+        child.kill().expect("the program can be ended");
+        child.wait().expect("the program has ended");
+        panic!("the program runs on");
+    };
+    let status = child.wait().expect("the program has ended");
+    assert!(status.success(), "ended with {status}");
+    let complaint = complaint.expect("the error output can be read");
+    assert!(complaint.is_empty(), "on the error output: {:?}", String::from_utf8_lossy(&complaint));
+    printed.expect("the output can be read")
+}
+
+/// Reads a stream to its end, beside whatever else goes on.
+fn all_of(mut stream: impl Read + Send + 'static) -> Receiver<io::Result<Vec<u8>>> {
+    let (send, receive) = channel();
+    thread::spawn(move || {
+        let mut bytes = Vec::new();
+        let read = stream.read_to_end(&mut bytes);
+        // Nobody listens any more once the run has taken too long.
+        let _ = send.send(read.map(|_| bytes));
+    });
+    receive
+}
