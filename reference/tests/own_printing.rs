@@ -133,3 +133,16 @@ fn the_example_texts() {
         check_printed(fourteen, include_bytes!("../../examples/fourteen.out")).expect("right").expect("accepted");
     assert_eq!((left.counts.t_in, left.counts.t_out, left.gates), (14, 1, vec![6, 0, 0]));
 }
+
+/// The README shows the doubly controlled Z line by line, and both replies as they are stored.
+#[test]
+fn the_readme_shows_them() {
+    let readme = include_str!("../../README.md");
+    for stored in [include_str!("../../examples/ccz.out"), include_str!("../../examples/fourteen.out")] {
+        let block: String = stored.lines().map(|line| format!("    {line}\n")).collect();
+        assert!(readme.contains(&block), "not in the README:\n{block}");
+    }
+    let rows = readme.lines().filter_map(|line| line.strip_prefix("| `")?.split('`').next());
+    let listed: Vec<&str> = rows.filter(|row| row.bytes().all(|byte| byte.is_ascii_hexdigit())).collect();
+    assert_eq!(listed, include_str!("../../examples/ccz.txt").lines().collect::<Vec<_>>());
+}
