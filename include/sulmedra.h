@@ -76,9 +76,9 @@ sulmedra_written sulmedra_write(size_t n, const uint8_t *weights, size_t weights
 sulmedra_reply sulmedra_carry_out(size_t n, uint8_t *marks, size_t marks_len, const uint8_t *move, size_t move_len);
 
 typedef struct {
-    uint64_t number;
-    uint64_t place;
-    uint64_t found; /* 1: a legal move was written; 0: there is none, or a refusal */
+    uint64_t number; /* 0, or the number of the fault */
+    uint64_t place;  /* 0 */
+    uint64_t found;  /* 1: a legal move was written; 0: there is none, or a refusal */
 } sulmedra_found;
 
 /* Finds a legal move for the marks of an odd set, or says that there is none; the forty bytes are then untouched.
@@ -88,16 +88,18 @@ typedef struct {
 sulmedra_found sulmedra_find(size_t n, const uint8_t *marks, size_t marks_len, uint8_t *move, size_t move_len);
 
 typedef struct {
-    uint64_t start;
+    uint64_t start;  /* where in the log the move starts, 40 k; 0 where the length is 0 */
     uint64_t length; /* 40, or 0 where the log has fewer than 40 k + 40 bytes */
 } sulmedra_part;
 
-/* The part of a log that move k takes, counted from 0. */
+/* The part of a log that move k takes, counted from 0. It has no fault.
+ *   log  any bytes, only read
+ *   k    any number */
 sulmedra_part sulmedra_move_at(const uint8_t *log, size_t log_len, size_t k);
 
 typedef struct {
-    uint64_t number;
-    uint64_t place;
+    uint64_t number;   /* 0, or the number of the fault */
+    uint64_t place;    /* the index of the faulty gate, from 0, for faults 3, 4 and 5; else 0 */
     uint64_t t_in;     /* T and T dagger gates of the circuit */
     uint64_t odd_size; /* members of its odd set */
     uint64_t t_out;    /* T and T dagger gates written */
@@ -105,8 +107,10 @@ typedef struct {
     uint64_t gates;    /* gates written */
 } sulmedra_trimmed;
 
-/* Trims a circuit: writes a circuit that sends each basis state to the same state with the same phase, and the moves that lead to it.
- *   gates  three bytes each, at most 12,288 bytes
+/* Trims a circuit on n wires: writes a circuit that sends each basis state to the same state with the same phase modulo 8, and the
+ * moves that lead to it. It has no more T and T dagger gates than the circuit and no more than (n * n + n) / 2 + 1, and no legal move
+ * is left for its odd set. Which CNOTs are used, the order of parities, and which legal moves are made are free.
+ *   gates  three bytes each, at most 12,288 bytes, any bytes
  *   out    at least 6,336 bytes; the gates are written from its start, and what comes after the last is untouched
  *   log    at least 10,200 bytes; the moves are written from its start, forty bytes each, and what comes after the last is untouched
  * Checks, in order: 1 wire count, 2 list length, 8 lent outputs, then gate by gate 3, 4, 5. A refusal's counts are 0. */
@@ -114,10 +118,10 @@ sulmedra_trimmed sulmedra_trim(size_t n, const uint8_t *gates, size_t gates_len,
                                size_t log_len);
 
 typedef struct {
-    uint64_t number;
-    uint64_t place; /* the line, from 1, for fault 9; else 0 */
-    uint64_t wires;
-    uint64_t gates;
+    uint64_t number; /* 0, or the number of the fault */
+    uint64_t place;  /* the line, from 1, for fault 9; else 0 */
+    uint64_t wires;  /* the wire count, 0 after a refusal */
+    uint64_t gates;  /* the number of gates, 0 after a refusal */
 } sulmedra_text;
 
 /* Reads the text form: line one is the wire count in two lower-case hex digits, each further line one gate in six.
