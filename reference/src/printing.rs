@@ -42,7 +42,7 @@ pub fn counts_line(counts: &Counts) -> Vec<u8> {
 /// n, the counts, the gates.
 pub fn reply(printed: &Printed) -> Vec<u8> {
     let form = text::write(printed.n, &printed.gates);
-    let (first, gates) = form.split_at(3);
+    let (first, gates) = form.split_at("01\n".len());
     [first, &counts_line(&printed.counts), gates].concat()
 }
 
