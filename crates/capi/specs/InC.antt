@@ -1,6 +1,10 @@
 -- What an exported function promises: the entry's own promise, its reply told as document 01's number and place and the counts beside them.
+use mathlib.Core.List.{List}
 use mathlib.Core.Path.{_≡_}
-use Prim.Native.Nat.{ℕ}
+use Prim.Native.Nat.{_+_, _≤_, ℕ}
+use lib.ListN.{drop, length, take}
+use Rattle.answer.specs.declared.Answered as answers
+use Rattle.answer.specs.declared.Answered.the-variants as answer
 use Rattle.circuit.specs.Entry.{numberOf, placeOf}
 use Rattle.circuit.specs.declared.Reply.{Reply}
 use Rattle.finder.specs.declared.Finding as finding
@@ -94,3 +98,30 @@ pub record TextInC (Promise : texts.TextReply → Type 0) (number place wires ga
   pub place-is : place ≡ textPlace reply
   pub wires-is : wires ≡ textWires reply
   pub gates-is : gates ≡ textGates reply
+
+-- ---- answer: the bytes of the reply, 0 where it refused
+
+abbrev pub answerNumber : answers.Answered → ℕ
+answerNumber (answer.Done bytes) = 0
+answerNumber (answer.Refused number place) = number
+
+abbrev pub answerPlace : answers.Answered → ℕ
+answerPlace (answer.Done bytes) = 0
+answerPlace (answer.Refused number place) = place
+
+abbrev pub answerBytes : answers.Answered → ℕ
+answerBytes (answer.Done bytes) = bytes
+answerBytes (answer.Refused number place) = 0
+
+pub record AnswerInC (Promise : answers.Answered → Type 0) (number place bytes : ℕ) : Type 0 where
+  pub reply : answers.Answered
+  pub promise : Promise reply
+  pub number-is : number ≡ answerNumber reply
+  pub place-is : place ≡ answerPlace reply
+  pub bytes-is : bytes ≡ answerBytes reply
+
+-- ---- move_at: a part of lent bytes, told by where it starts and how long it is
+
+pub record IsPart (lent : List ℕ) (start long : ℕ) (part : List ℕ) : Type 0 where
+  pub within : start + long ≤ length lent
+  pub is : take long (drop start lent) ≡ part

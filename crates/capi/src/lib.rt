@@ -9,10 +9,11 @@ ghost use Rattle.finder.specs.Entry.{FindMove};
 ghost use Rattle.finder.specs.Entry as find;
 ghost use Rattle.moves.specs.Log.{moveAt};
 ghost use Rattle.synth.specs.Entry.{WriteList, writtenCount, writtenNumber, writtenPlace};
-ghost use lib.ListN.{drop, take};
 ghost use Rattle.text.specs.Entry.{ReadText};
 ghost use Rattle.trimmer.specs.Entry.{TrimList};
-ghost use Rattle.capi.specs.InC.{InC, FindInC, WriteInC, TrimInC, foundOf, trimNumber, trimPlace, countsOf, TextInC, textNumber, textPlace, textWires, textGates};
+ghost use Rattle.answer.specs.Entry.{AnswerText};
+ghost use Rattle.capi.specs.InC.{InC, FindInC, WriteInC, TrimInC, foundOf, trimNumber, trimPlace, countsOf, TextInC, textNumber, textPlace, textWires, textGates, AnswerInC, answerNumber, answerPlace, answerBytes, IsPart};
+use answer::Answered;
 use circuit::Reply;
 use circuit::limits::MOVE_BYTES;
 use finder::Finding;
@@ -69,6 +70,14 @@ pub struct SulmedraText {
     pub place: u64,
     pub wires: u64,
     pub gates: u64,
+}
+
+// A reply of the whole answer to a text, with the bytes written.
+#[repr(C)]
+pub struct SulmedraAnswered {
+    pub number: u64,
+    pub place: u64,
+    pub bytes: u64,
 }
 
 // `circuit::read`.
@@ -164,7 +173,7 @@ pub extern "C" fn sulmedra_trim(
 // `carry::move_at`, as a place in the log.
 #[no_mangle]
 pub extern "C" fn sulmedra_move_at(log: &[u8], k: usize) -> SulmedraPart
-    ensures { λ r. ⌜ take (r .length) (drop (r .start) (now (log .entry))) ≡ moveAt moveBytes (now (log .entry)) k ⌝ }
+    ensures { λ r. ⌜ IsPart (now (log .entry)) (r .start) (r .length) (moveAt moveBytes (now (log .entry)) k) ⌝ }
 {
     if k < log.len() / MOVE_BYTES {
         SulmedraPart {
@@ -185,6 +194,31 @@ pub extern "C" fn sulmedra_read_text(text: &[u8], gates: &mut [u8]) -> SulmedraT
     ensures { λ r. ⌜ TextInC (ReadText (now (text .entry)) (now (gates .entry)) (now (gates .exit))) (r .number) (r .place) (r .wires) (r .gates) ⌝ }
 {
     text_in_c(text::read_text(text, gates))
+}
+
+// `answer::answer`.
+#[no_mangle]
+pub extern "C" fn sulmedra_answer(text: &[u8], out: &mut [u8]) -> SulmedraAnswered
+    ensures { λ r. ⌜ AnswerInC (AnswerText (now (text .entry)) (now (out .entry)) (now (out .exit))) (r .number) (r .place) (r .bytes) ⌝ }
+{
+    answered_in_c(answer::answer(text, out))
+}
+
+fn answered_in_c(reply: Answered) -> SulmedraAnswered
+    ensures { λ r. ⌜ (r .number ≡ answerNumber reply) × (r .place ≡ answerPlace reply) × (r .bytes ≡ answerBytes reply) ⌝ }
+{
+    match reply {
+        Answered::Done { bytes } => SulmedraAnswered {
+            number: 0,
+            place: 0,
+            bytes: bytes as u64,
+        },
+        Answered::Refused { number, place } => SulmedraAnswered {
+            number: number as u64,
+            place: place as u64,
+            bytes: 0,
+        },
+    }
 }
 
 fn text_in_c(reply: TextReply) -> SulmedraText

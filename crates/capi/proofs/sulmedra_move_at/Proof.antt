@@ -11,10 +11,10 @@ mul-t7 : tie.Need-mul-t7
 mul-t7 c = search needs
 
 returns : tie.Need-returns
-returns c = let a = c .before .args in sym (part-whole (now (a .log)) (a .k) (omega arith))
+returns c = let a = c .before .args in record { within = omega arith; is = sym (part-whole (now (a .log)) (a .k) (omega arith)) }
 
 returns-2 : tie.Need-returns-2
-returns-2 c = let a = c .before .args in sym (part-short (now (a .log)) (a .k) (omega arith))
+returns-2 c = let a = c .before .args in record { within = omega arith; is = sym (part-short (now (a .log)) (a .k) (omega arith)) }
 
 pub sulmedra-move-at-spec : {M : Type 1} → statement M
 sulmedra-move-at-spec = tie.close (tie.spec mul-t7 returns returns-2)
