@@ -130,6 +130,19 @@ typedef struct {
  * Checks: 8, then lines in order: form (9), on line one the count (1); gate line 4,097 gives 2. The gates are not judged here. */
 sulmedra_text sulmedra_read_text(const uint8_t *text, size_t text_len, uint8_t *gates, size_t gates_len);
 
+typedef struct {
+    uint64_t number; /* 0, or 8: the lent bytes are too few; a fault of the text is told by the line written */
+    uint64_t place;  /* 0 */
+    uint64_t bytes;  /* the bytes of the reply, 0 after a refusal */
+} sulmedra_answered;
+
+/* Answers a text with what the program `trim` prints for it: the wire count, the four counts and the gates of the trimmed circuit, or
+ * one line `refused ` with the number and the place of the text's fault. The first 28,676 bytes of a text decide.
+ *   text  any bytes
+ *   out   at least 14,807 bytes; the reply is written from its start, and what comes after it is untouched
+ * Checks: 8. */
+sulmedra_answered sulmedra_answer(const uint8_t *text, size_t text_len, uint8_t *out, size_t out_len);
+
 #ifdef __cplusplus
 }
 #endif
