@@ -31,3 +31,20 @@ brute3 f g t a b c ha hb hc =
     eqb→eq (f a b c) (g a b c)
     (all2-at (λ c. eqb (f a b c) (g a b c))
     (all2-at (λ b. all2 (λ c. eqb (f a b c) (g a b c))) (all2-at (λ a. all2 (λ b. all2 (λ c. eqb (f a b c) (g a b c)))) t a ha) b hb) c hc)
+
+pub brute6 : (f g : ℕ → ℕ → ℕ → ℕ → ℕ → ℕ → ℕ)
+    → T (all2 (λ a. all2 (λ b. all2 (λ c. all2 (λ p. all2 (λ q. all2 (λ r. eqb (f a b c p q r) (g a b c p q r))))))))
+    → (a b c p q r : ℕ) → a < 2 → b < 2 → c < 2 → p < 2 → q < 2 → r < 2 → f a b c p q r ≡ g a b c p q r
+brute6 f g t a b c p q r ha hb hc hp hq hr =
+    brute3 (f a b c) (g a b c)
+    (all2-at (λ c. F a b c) (all2-at (λ b. all2 (λ c. F a b c)) (all2-at (λ a. all2 (λ b. all2 (λ c. F a b c))) t a ha) b hb) c hc) p q r hp hq hr
+  where
+    F : ℕ → ℕ → ℕ → Bool
+    F a b c = all2 (λ p. all2 (λ q. all2 (λ r. eqb (f a b c p q r) (g a b c p q r))))
+
+pub brute7 : (f g : ℕ → ℕ → ℕ → ℕ → ℕ → ℕ → ℕ → ℕ)
+    → T (all2 (λ s. all2 (λ a. all2 (λ b. all2 (λ c. all2 (λ p. all2 (λ q. all2 (λ r. eqb (f s a b c p q r) (g s a b c p q r)))))))))
+    → (s a b c p q r : ℕ) → s < 2 → a < 2 → b < 2 → c < 2 → p < 2 → q < 2 → r < 2 → f s a b c p q r ≡ g s a b c p q r
+brute7 f g t s a b c p q r hs =
+    brute6 (f s) (g s)
+    (all2-at (λ s. all2 (λ a. all2 (λ b. all2 (λ c. all2 (λ p. all2 (λ q. all2 (λ r. eqb (f s a b c p q r) (g s a b c p q r)))))))) t s hs) a b c p q r

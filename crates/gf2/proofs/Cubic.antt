@@ -8,7 +8,7 @@ use lib.ListN.{length}
 use Rattle.gf2.proofs.Bit.{bit-lt, bit-of-zero, bit-xor}
 use Rattle.gf2.proofs.Modular.{even-mul}
 use Rattle.gf2.proofs.Over.{sumOver-add, sumOver-const, sumOver-mod, sumOver-scale, xorAll-bit}
-use Rattle.gf2.proofs.SixBits.{six-bits}
+use Rattle.gf2.proofs.Brute.{brute6}
 use Rattle.gf2.specs.Bit.{bit}
 use Rattle.gf2.specs.Over.{sumOver, xorAll}
 
@@ -17,7 +17,7 @@ cube : (a b c p q r : ℕ) → a < 2 → b < 2 → c < 2 → p < 2 → q < 2 →
     → (a * b * c + (a + p) % 2 * ((b + q) % 2) * ((c + r) % 2)) % 2
     ≡ ((p * b * c + q * a * c + r * a * b) % 2 + (p * q * c + (p * r * b + q * r * a)) + p * q * r) % 2
 cube =
-    six-bits (λ a b c p q r. (a * b * c + (a + p) % 2 * ((b + q) % 2) * ((c + r) % 2)) % 2)
+    brute6 (λ a b c p q r. (a * b * c + (a + p) % 2 * ((b + q) % 2) * ((c + r) % 2)) % 2)
     (λ a b c p q r. ((p * b * c + q * a * c + r * a * b) % 2 + (p * q * c + (p * r * b + q * r * a)) + p * q * r) % 2) tt
 
 even3 : (a b c : ℕ) → a % 2 ≡ 0 → b % 2 ≡ 0 → c % 2 ≡ 0 → (a + (b + c)) % 2 ≡ 0

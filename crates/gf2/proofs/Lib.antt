@@ -8,7 +8,7 @@ pub mod Digits
 pub mod Table
 pub mod Over
 pub mod Blocks
-pub mod SixBits
+pub mod Brute
 pub mod Cubic
 pub mod Pairing
 pub mod Dependence
@@ -16,7 +16,6 @@ pub mod Leading
 pub mod Combination
 pub mod Echelon
 pub mod Basis
-pub mod Brute
 pub mod Symmetric
 pub mod Expansion
 pub mod Gather

@@ -11,7 +11,7 @@ use lib.Pow.{pow-lt, pow-pos}
 use Rattle.gf2.proofs.Bit.{bit-ext, bit-lt, bit-of-zero, bit-pow-same, bit-scale, bit-xor}
 use Rattle.gf2.proofs.Over.{below-map, xorAll-lt, xorAll-map-bit, xorAll-zero}
 use Rattle.gf2.proofs.Selection.{scale-lt}
-use Rattle.gf2.proofs.SixBits.{seven-bits, six-bits}
+use Rattle.gf2.proofs.Brute.{brute6, brute7}
 use Rattle.gf2.specs.Bit.{bit}
 use Rattle.gf2.specs.Over.{Below, sumOver, xorAll}
 use Rattle.moves.proofs.Even.{Even, even-add, even-bit, even-by, even-scale, triples-all}
@@ -54,13 +54,13 @@ kappa-bit n z t y i j h l =
 -- ---- the arithmetic of one y: s, a, b, c are its bits t, i, j, k, and p, q, r the bits i, j, k of z
 one-bit : (s a p : ℕ) → s < 2 → a < 2 → p < 2 → a % 2 ≡ ((a + s * p) % 2 * ((a + s * p) % 2) + p * s) % 2
 one-bit s a p hs ha hp =
-    six-bits (λ s a p u v w. a % 2) (λ s a p u v w. ((a + s * p) % 2 * ((a + s * p) % 2) + p * s) % 2) tt s a p 0 0 0 hs ha hp (omega arith) (omega arith) (omega arith)
+    brute6 (λ s a p u v w. a % 2) (λ s a p u v w. ((a + s * p) % 2 * ((a + s * p) % 2) + p * s) % 2) tt s a p 0 0 0 hs ha hp (omega arith) (omega arith) (omega arith)
 
 -- a product of two bits of bar y, by the triple of t
 two-bits : (s a b p q : ℕ) → s < 2 → a < 2 → b < 2 → p < 2 → q < 2
     → (a + s * p) % 2 * ((b + s * q) % 2) % 2 ≡ ((1 * a * b + p * s * b + q * s * a) % 2 + p * q * s) % 2
 two-bits s a b p q hs ha hb hp hq =
-    six-bits (λ s a b p q u. (a + s * p) % 2 * ((b + s * q) % 2) % 2) (λ s a b p q u. ((1 * a * b + p * s * b + q * s * a) % 2 + p * q * s) % 2) tt s a b p q 0 hs ha hb
+    brute6 (λ s a b p q u. (a + s * p) % 2 * ((b + s * q) % 2) % 2) (λ s a b p q u. ((1 * a * b + p * s * b + q * s * a) % 2 + p * q * s) % 2) tt s a b p q 0 hs ha hb
     hp hq (omega arith)
 
 -- a triple, by products of two bits of bar y
@@ -68,7 +68,7 @@ three-bits : (s a b c p q r : ℕ) → s < 2 → a < 2 → b < 2 → c < 2 → p
     → (p * b * c + q * a * c + r * a * b) % 2 % 2
     ≡ (p * ((b + s * q) % 2 * ((c + s * r) % 2)) + (q * ((a + s * p) % 2 * ((c + s * r) % 2)) + (r * ((a + s * p) % 2 * ((b + s * q) % 2)) + p * q * r * s))) % 2
 three-bits =
-    seven-bits (λ s a b c p q r. (p * b * c + q * a * c + r * a * b) % 2 % 2)
+    brute7 (λ s a b c p q r. (p * b * c + q * a * c + r * a * b) % 2 % 2)
     (λ s a b c p q r.
     (p * ((b + s * q) % 2 * ((c + s * r) % 2)) + (q * ((a + s * p) % 2 * ((c + s * r) % 2)) + (r * ((a + s * p) % 2 * ((b + s * q) % 2)) + p * q * r * s))) % 2) tt
 
