@@ -28,7 +28,7 @@ module _ (w u : List ℕ) where
   unfolding pairRest q
   pairRest-is i j = ap (λ (t : ℕ). 3 * t) (quarter (Q w i j) (Q u i j))
 
-  pairRest-sym : (i j : ℕ) → pairRest w u i j ≡ pairRest w u j i
+  pub pairRest-sym : (i j : ℕ) → pairRest w u i j ≡ pairRest w u j i
   pairRest-sym i j = pairRest-is i j ∙ rw (swap w i j, swap u i j) (sym (pairRest-is j i))
     where
       swap : (v : List ℕ) (i j : ℕ) → Q v i j ≡ Q v j i

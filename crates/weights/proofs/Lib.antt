@@ -4,5 +4,6 @@ pub mod OneSum
 pub mod TableRule
 pub mod Ways
 pub mod Places
+pub mod Difference
 pub mod RestSteps
 pub mod Laws

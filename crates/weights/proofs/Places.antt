@@ -7,10 +7,10 @@ use native.Mathlib.Omega.{arith}
 use lib.Arith.{digits-div, digits-mod}
 use lib.ListN.{getD, length}
 use borrow.Author.Tests.{lt-ltb}
+use Rattle.circuit.specs.Sound.{weight}
 use Rattle.gf2.proofs.Table.{getD-tabulate, length-tabulate}
 use Rattle.phase.specs.Coefficients.{c, l, q}
-use Rattle.phase.specs.NewWeights.{oneRest, pairRest}
-use Rattle.weights.specs.Rests.{oneRests, pairRests}
+use Rattle.weights.specs.Rests.{oneIn, oneRests, weightIn, weightsIn}
 use Rattle.weights.specs.Tables.{cEntry, cTable, lEntry, lTable, qEntry, qTable}
 
 -- ---- lengths, and the entry at each place
@@ -40,22 +40,23 @@ module _ (N n : ℕ) (w : List ℕ) where
   unfolding cTable
   c-at p h = sym (getD-tabulate (N * (N * N)) (λ p. cEntry n w (p % N) (p / N % N) (p / (N * N))) p h)
 
-module _ (N : ℕ) (w u : List ℕ) where
-  pub length-one : (n : ℕ) → length (oneRests N n w u) ≡ N
+module _ (N n : ℕ) (d qs : List ℕ) where
+  pub length-one : length (oneRests N n d qs) ≡ N
   unfolding oneRests
-  length-one n = length-tabulate N (oneRest n w u)
+  length-one = length-tabulate N (oneIn N n d qs)
 
-  pub one-at : (n i : ℕ) → i < N → oneRest n w u i ≡ getD (oneRests N n w u) i 0
+  pub one-at : (i : ℕ) → i < N → oneIn N n d qs i ≡ getD (oneRests N n d qs) i 0
   unfolding oneRests
-  one-at n i h = sym (getD-tabulate N (oneRest n w u) i h)
+  one-at i h = sym (getD-tabulate N (oneIn N n d qs) i h)
 
-  pub length-pair : length (pairRests N w u) ≡ N * N
-  unfolding pairRests
-  length-pair = length-tabulate (N * N) (λ p. pairRest w u (p % N) (p / N))
+module _ (size N n : ℕ) (one qs u : List ℕ) where
+  pub length-weights : length (weightsIn size N n one qs u) ≡ size
+  unfolding weightsIn
+  length-weights = length-tabulate size (λ p. weightIn N n one qs (weight u p) p)
 
-  pub pair-at : (p : ℕ) → p < N * N → pairRest w u (p % N) (p / N) ≡ getD (pairRests N w u) p 0
-  unfolding pairRests
-  pair-at p h = sym (getD-tabulate (N * N) (λ p. pairRest w u (p % N) (p / N)) p h)
+  pub weights-at : (p : ℕ) → p < size → weightIn N n one qs (weight u p) p ≡ weight (weightsIn size N n one qs u) p
+  unfolding weightsIn
+  weights-at p h = sym (getD-tabulate size (λ p. weightIn N n one qs (weight u p) p) p h)
 
 -- ---- the place of two wires, and of three
 
@@ -68,10 +69,6 @@ module _ (N i j : ℕ) (hi : i < N) where
 
   pub place-lt : (M : ℕ) → j < M → N * j + i < N * M
   place-lt M hj = omega (arith, mul-le-mul-left N hj, mul-suc N j)
-
--- two wires: the rest stands at N j + i
-pub pair-rest-at : (N : ℕ) (w u : List ℕ) (i j : ℕ) → i < N → j < N → getD (pairRests N w u) (N * j + i) 0 ≡ pairRest w u i j
-pair-rest-at N w u i j hi hj = sym (pair-at N w u (N * j + i) (place-lt N i j hi N hj)) ∙ rw (first-wire N i j hi, second-wire N i j hi)
 
 -- ---- the coefficients, for wires in order below n
 

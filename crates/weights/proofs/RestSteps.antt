@@ -7,125 +7,140 @@ use native.Mathlib.Decide.{decLt}
 use native.Mathlib.Numerals.{add-one}
 use native.Mathlib.Omega.{arith}
 use lib.Count.{ones, trailingZeros}
-use lib.ListN.{getD, length}
-use lib.Pow.{pow-mono}
+use lib.ListN.{getD, length, take}
+use lib.Seq.{ext-getD}
 use borrow.Author.Tests.{le-ltb, lt-ltb}
-use Rattle.circuit.specs.Sound.{weight}
-use Rattle.gf2.proofs.Sum.{sum-ext, sum-suc}
+use Rattle.circuit.specs.Sound.{SoundMarks, SoundWeights, weight}
+use Rattle.gf2.proofs.Sum.{sum-suc}
 use Rattle.gf2.specs.Sum.{sum}
-use Rattle.phase.proofs.Lists.{pad-length}
+use Rattle.phase.proofs.Lists.{Wide, marks-weights, pad-length, wide}
 use Rattle.phase.proofs.NewWeights.{new-high, new-low}
 use Rattle.phase.proofs.Rest.{rest-at-width}
 use Rattle.phase.proofs.WireSums.{apart-other, apart-same}
 use Rattle.phase.proofs.Wires.{is-one, is-two, low-one, low-two, next-two}
-use Rattle.phase.specs.Coefficients.{l, q}
 use Rattle.phase.specs.NewWeights.{apart, byWires, low, newWeight, newWeights, next, oneRest, pairRest, rest}
-use Rattle.weights.proofs.Places.{one-at, pair-rest-at}
-use Rattle.weights.specs.Rests.{oneRests, pairRests, restIn, weightIn}
+use Rattle.weights.proofs.Difference.{one-by-difference, pair-by-difference}
+use Rattle.weights.proofs.Places.{length-weights, one-at, weights-at}
+use Rattle.weights.specs.Rests.{difference, newIn, oneIn, oneRests, pairIn, restIn, weightIn, weightsIn}
+use Rattle.weights.specs.Tables.{lEntry, qTable}
 
 -- ---- the rest of a pair, and those with wire i summed
 
-pub pair-end : (w u : List ℕ) (i j a b : ℕ) → a ≡ q w i j → b ≡ q u i j → 3 * ((a + 3 * b) % 4) ≡ pairRest w u i j
-unfolding pairRest
-pair-end w u i j a b e f = rw (e, f)
-
-module _ (i j x : ℕ) where
-  pub same-wire : i ≡ j → (0 ≡ apart i j * x) × (0 ≤ 255)
+module _ (N : ℕ) (qs : List ℕ) (i j : ℕ) where
+  pub same-wire : i ≡ j → (0 ≡ apart i j * pairIn N qs i j) × (0 ≤ 765)
   same-wire e = (rw (e, apart-same j) (omega arith), omega arith)
 
-  pub other-wire : (r : ℕ) → i ≢ j → r ≡ x → r ≤ 255 → (r ≡ apart i j * x) × (r ≤ 255)
-  other-wire r ne e h = (rw (e, apart-other i j (λ f. ne (sym f))) (omega arith), h)
+  module _ (r : ℕ) (ne : i ≢ j) (b : r ≤ 765) where
+    pub lower-wire : i < j → r ≡ 3 * getD qs (N * j + i) 0 → (r ≡ apart i j * pairIn N qs i j) × (r ≤ 765)
+    lower-wire h e = (simp (lt-ltb i j h) (rw (apart-other i j (λ f. ne (sym f))) (omega (arith, e))), b)
+
+    pub higher-wire : j ≤ i → r ≡ 3 * getD qs (N * i + j) 0 → (r ≡ apart i j * pairIn N qs i j) × (r ≤ 765)
+    higher-wire h e = (simp (le-ltb i j h) (rw (apart-other i j (λ f. ne (sym f))) (omega (arith, e))), b)
 
 -- the sum over the first m other wires
 abbrev pub others : List ℕ → ℕ → ℕ → ℕ → ℕ
-others pair N i m = sum m (λ j. apart i j * getD pair (N * j + i) 0)
+others qs N i m = sum m (λ j. apart i j * pairIn N qs i j)
 
-pub others-next : (pair : List ℕ) (N i j s r : ℕ) → s ≡ others pair N i j → r ≡ apart i j * getD pair (N * j + i) 0 → s + r ≡ others pair N i (j + 1)
-others-next pair N i j s r e f = rw (add-one j, sum-suc j (λ j. apart i j * getD pair (N * j + i) 0), e, f)
+pub others-next : (qs : List ℕ) (N i j s r : ℕ) → s ≡ others qs N i j → r ≡ apart i j * pairIn N qs i j → s + r ≡ others qs N i (j + 1)
+others-next qs N i j s r e f = rw (add-one j, sum-suc j (λ j. apart i j * pairIn N qs i j), e, f)
 
 -- the rest of wire i
-pub one-end : (N n : ℕ) (w u pair : List ℕ) (i a b s : ℕ) → n ≤ N → i < N → pair ≡ pairRests N w u → a ≡ l w i → b ≡ l u i → s ≡ others pair N i n
-    → (a + 7 * (b + s)) % 8 ≡ oneRest n w u i
-unfolding oneRest
-one-end N n w u pair i a b s fit h is e f g = rw (e, f, g, is, sums)
-  where
-    sums : others (pairRests N w u) N i n ≡ sum n (λ j. apart i j * pairRest w u i j)
-    sums =
-        sum-ext n (λ j. apart i j * getD (pairRests N w u) (N * j + i) 0) (λ j. apart i j * pairRest w u i j)
-        (λ j lj. ap (λ (t : ℕ). apart i j * t) (pair-rest-at N w u i j h (omega arith)))
+pub one-end : (N n : ℕ) (d qs : List ℕ) (i a s : ℕ) → a ≡ lEntry n d i → s ≡ others qs N i n → (a + 7 * s) % 8 ≡ oneIn N n d qs i
+one-end N n d qs i a s e f = rw (e, f)
 
 -- ---- the rest on p, by the number of its wires
 
-module _ (N p : ℕ) (inside : p < 2 ^ N) where
-  pub one-inside : ones p ≡ 1 → low N p < N
-  one-inside o = let t = is-one N p inside o in rw (t .2, low-one N (t .0) (t .1)) (t .1)
+module _ (N n p : ℕ) (fit : n ≤ N) (inside : p < 2 ^ n) where
+  pub one-inside : ones p ≡ 1 → low N p < n
+  one-inside o = let t = is-one n p inside o in rw (t .2, low-one N (t .0) (omega (arith, t .1))) (t .1)
 
   -- of two wires the lowest can be taken away
   pub low-inside : ones p ≡ 2 → (low N p < N) × (2 ^ low N p ≤ p)
   low-inside o =
-      let t = is-two N p inside o in
+      let t = is-two n p inside o in
       let h : t .0 < N = omega (arith, t .2, t .3) in
       let e : low N p ≡ t .0 = ap (λ (x : ℕ). trailingZeros N x) (t .4) ∙ low-two N (t .0) (t .1) (t .2) h in
       (omega (arith, e), omega (arith, ap (λ (x : ℕ). 2 ^ x) e, t .4))
 
-  -- and then the next one is a wire
-  pub next-inside : ones p ≡ 2 → next N p < N
+  -- and then the next one is a higher wire
+  pub next-inside : ones p ≡ 2 → (low N p < next N p) × (next N p < n)
   next-inside o =
-      let t = is-two N p inside o in
+      let t = is-two n p inside o in
       let h : t .0 < N = omega (arith, t .2, t .3) in
-      rw (t .4, low-two N (t .0) (t .1) (t .2) h, next-two N (t .0) (t .1) (t .2) (t .3)) (t .3)
+      let g : t .1 < N = omega (arith, t .3) in
+      rw (t .4, low-two N (t .0) (t .1) (t .2) h, next-two N (t .0) (t .1) (t .2) g) (t .2, t .3)
 
-module _ (N : ℕ) (one pair : List ℕ) (p : ℕ) where
-  pub rest-one-wire : (i : ℕ) → ones p ≡ 1 → i ≡ low N p → getD one i 0 ≡ restIn N one pair p
+module _ (N : ℕ) (one qs : List ℕ) (p : ℕ) where
+  pub rest-one-wire : (i : ℕ) → ones p ≡ 1 → i ≡ low N p → getD one i 0 ≡ restIn N one qs p
   unfolding byWires
   rest-one-wire i o e = rw (o, e)
 
-  pub rest-two-wires : (i m j : ℕ) → ones p ≡ 2 → i ≡ low N p → m ≡ p - 2 ^ i → j ≡ trailingZeros N m → getD pair (N * j + i) 0 ≡ restIn N one pair p
+  pub rest-two-wires : (i m j r : ℕ) → ones p ≡ 2 → i ≡ low N p → m ≡ p - 2 ^ i → j ≡ trailingZeros N m → r ≡ 3 * getD qs (N * j + i) 0 → r ≡ restIn N one qs p
   unfolding byWires
-  rest-two-wires i m j o e f g = rw (o, g, f, e)
+  rest-two-wires i m j r o e f g h = rw (o, h, g, f, e)
 
-  pub rest-more-wires : ones p ≢ 1 → ones p ≢ 2 → 0 ≡ restIn N one pair p
+  pub rest-more-wires : ones p ≢ 1 → ones p ≢ 2 → 0 ≡ restIn N one qs p
   unfolding byWires
   rest-more-wires a b = go (ones p) a b
     where
-      go : (o : ℕ) → o ≢ 1 → o ≢ 2 → 0 ≡ byWires o (getD one (low N p) 0) (getD pair (N * next N p + low N p) 0)
+      go : (o : ℕ) → o ≢ 1 → o ≢ 2 → 0 ≡ byWires o (getD one (low N p) 0) (3 * getD qs (N * next N p + low N p) 0)
       go zero a b = refl
       go (suc zero) a b = absurd (a refl)
       go (suc (suc zero)) a b = absurd (b refl)
       go (suc (suc (suc o))) a b = refl
 
--- what is looked up is the rest
-pub looked-up : (N n : ℕ) (w u : List ℕ) (p : ℕ) → n ≤ N → p < 2 ^ n → restIn N (oneRests N n w u) (pairRests N w u) p ≡ rest n w u p
-unfolding byWires
-looked-up N n w u p fit h = go (ones p) refl ∙ sym (rest-at-width w u n N p fit h)
-  where
-    inside : p < 2 ^ N
-    inside = omega (arith, pow-mono {i = n} {j = N} fit)
-
-    go : (o : ℕ) → ones p ≡ o
-        → byWires o (getD (oneRests N n w u) (low N p) 0) (getD (pairRests N w u) (N * next N p + low N p) 0) ≡ byWires o (oneRest n w u (low N p)) (pairRest w u (low N p) (next N p))
-    go zero e = refl
-    go (suc zero) e = sym (one-at N w u n (low N p) (one-inside N p inside e))
-    go (suc (suc zero)) e = pair-rest-at N w u (low N p) (next N p) (low-inside N p inside e .0) (next-inside N p inside e)
-    go (suc (suc (suc o))) e = refl
-
 -- ---- the new weight of p
 
-module _ (N n : ℕ) (one pair : List ℕ) (mark p : ℕ) where
-  pub weight-below : (r : ℕ) → p < 2 ^ n → r ≡ restIn N one pair p → (mark + r) % 8 ≡ weightIn N n one pair mark p
+module _ (N n : ℕ) (one qs : List ℕ) (mark p : ℕ) where
+  pub weight-below : (r : ℕ) → p < 2 ^ n → r ≡ restIn N one qs p → (mark + r) % 8 ≡ weightIn N n one qs mark p
   weight-below r h e = simp (lt-ltb p (2 ^ n) h) (rw e)
 
-  pub weight-above : 2 ^ n ≤ p → 0 ≡ weightIn N n one pair mark p
+  pub weight-above : 2 ^ n ≤ p → 0 ≡ weightIn N n one qs mark p
   weight-above h = simp (le-ltb p (2 ^ n) h)
-
-pub weight-in-table : (N n size : ℕ) (w u one pair : List ℕ) (p : ℕ) → n ≤ N → one ≡ oneRests N n w u → pair ≡ pairRests N w u
-    → weightIn N n one pair (weight u p) p ≡ weight (newWeights size n w u) p
-weight-in-table N n size w u one pair p fit e f = rw (e, f) (go (decLt p (2 ^ n)))
-  where
-    go : Dec (p < 2 ^ n) → weightIn N n (oneRests N n w u) (pairRests N w u) (weight u p) p ≡ weight (newWeights size n w u) p
-    go (yes h) = sym (weight-below N n (oneRests N n w u) (pairRests N w u) (weight u p) p (rest n w u p) h (sym (looked-up N n w u p fit h))) ∙ sym (new-low size n w u p h)
-    go (no h) = sym (weight-above N n (oneRests N n w u) (pairRests N w u) (weight u p) p (omega arith)) ∙ sym (new-high size n w u p (omega arith))
 
 pub length-new : (size n : ℕ) (w u : List ℕ) → 2 ^ n ≤ size → length (newWeights size n w u) ≡ size
 unfolding newWeights
 length-new size n w u h = pad-length size n (newWeight n w u) h
+
+-- ---- the difference gives the new weights
+
+pub by-difference : (size N n : ℕ) (d u qs one out : List ℕ) → qs ≡ qTable N n d → one ≡ oneRests N n d qs → out ≡ weightsIn size N n one qs u → out ≡ newIn size N n d u
+by-difference size N n d u qs one out e f g = g ∙ rw (f, e)
+
+module _ (size N n : ℕ) (w u : List ℕ) (fit : n ≤ N) (ww : Wide n w) (wu : Wide n u) where
+  abbrev qs : List ℕ
+  qs = qTable N n (take (2 ^ n) (difference w u))
+
+  abbrev one : List ℕ
+  one = oneRests N n (take (2 ^ n) (difference w u)) qs
+
+  -- what is looked up is the rest
+  looked-up : (p : ℕ) → p < 2 ^ n → restIn N one qs p ≡ rest n w u p
+  unfolding byWires
+  looked-up p h = go (ones p) refl ∙ sym (rest-at-width w u n N p fit h)
+    where
+      go : (o : ℕ) → ones p ≡ o
+          → byWires o (getD one (low N p) 0) (3 * getD qs (N * next N p + low N p) 0) ≡ byWires o (oneRest n w u (low N p)) (pairRest w u (low N p) (next N p))
+      go zero e = refl
+      go (suc zero) e =
+          let i = one-inside N n p fit h e in
+          sym (one-at N n (take (2 ^ n) (difference w u)) qs (low N p) (omega (arith, i))) ∙ one-by-difference n w u ww wu N fit (low N p) i
+      go (suc (suc zero)) e =
+          let i = next-inside N n p fit h e in
+          pair-by-difference n w u ww wu N fit (low N p) (next N p) (i .0) (i .1)
+      go (suc (suc (suc o))) e = refl
+
+  at : (p : ℕ) → Dec (p < 2 ^ n) → weightIn N n one qs (weight u p) p ≡ weight (newWeights size n w u) p
+  at p (yes h) = sym (weight-below N n one qs (weight u p) p (rest n w u p) h (sym (looked-up p h))) ∙ sym (new-low size n w u p h)
+  at p (no h) = sym (weight-above N n one qs (weight u p) p (omega arith)) ∙ sym (new-high size n w u p (omega arith))
+
+  pub new-by-difference : 2 ^ n ≤ size → newIn size N n (take (2 ^ n) (difference w u)) u ≡ newWeights size n w u
+  new-by-difference room =
+      ext-getD 0 (weightsIn size N n one qs u) (newWeights size n w u) (length-weights size N n one qs u ∙ sym (length-new size n w u room))
+      (λ p h. sym (weights-at size N n one qs u p (omega (arith, length-weights size N n one qs u))) ∙ at p (decLt p (2 ^ n)))
+
+-- d holds the difference, of which the first k = 2 ^ n are taken
+pub new-made : (size N n k : ℕ) (w u d out : List ℕ) → n ≤ N → 2 ^ n ≤ size → SoundWeights size n w → SoundMarks size n u
+    → k ≡ 2 ^ n → d ≡ difference w u → out ≡ newIn size N n (take k d) u → out ≡ newWeights size n w u
+new-made size N n k w u d out fit room sw su e f g =
+    g ∙ rw (e, f) (new-by-difference size N n w u fit (wide size n w room sw) (wide size n u room (marks-weights size n u su)) room)

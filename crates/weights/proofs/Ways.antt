@@ -3,11 +3,13 @@ use mathlib.Core.List.{List}
 use mathlib.Core.Logic.{_≢_}
 use mathlib.Core.Path.{ap, refl, sym, _∙_, _≡_}
 use Prim.Native.Nat.{ℕ, _≤_}
+use native.Mathlib.Omega.{arith}
 use lib.ListN.{length}
 use Rattle.circuit.proofs.Judging.{lent-pass, or-pass, or-well, refused, wires-pass, wires-well}
 use Rattle.circuit.specs.Faults.{lentFault, orElse, wiresFault}
 use Rattle.circuit.specs.Limits.{maxWires, pairBytes, tripleBytes, weightBytes}
 use Rattle.circuit.specs.OddSet.{oddSet}
+use Rattle.circuit.specs.Sound.{SoundMarks, SoundWeights}
 use Rattle.circuit.specs.declared.Reply.the-variants.{Done, Refused}
 use Rattle.phase.specs.NewWeights.{newWeights}
 use Rattle.weights.proofs.TableRule.{marks-sound, weights-sound}
@@ -59,13 +61,13 @@ module _ (n : ℕ) (w l q c : List ℕ) (f : ℕ) (e : f ≡ coefficientsFault n
 
   module _ (z : f ≡ 0) where
     -- what each of the three writers asks
-    pub tables-fit : (length w ≡ weightBytes) × (length l ≡ maxWires) × (length q ≡ pairBytes) × (length c ≡ tripleBytes)
+    pub tables-fit : (length w ≤ weightBytes) × (length l ≡ maxWires) × (length q ≡ pairBytes) × (length c ≡ tripleBytes)
     tables-fit =
         let pairs : ℕ = orElse (lentFault (length q) pairBytes) (lentFault (length c) tripleBytes) in
         let a = call-passes n (tablesFault (length l) (length q) (length c)) (weightsFault n w) (sym e ∙ z) in
         let b = or-pass (lentFault (length l) maxWires) pairs (a .2) in
         let d = or-pass (lentFault (length q) pairBytes) (lentFault (length c) tripleBytes) (b .1) in (
-          weights-sound weightBytes n w .0 (a .3) .long,
+          omega (arith, weights-sound weightBytes n w .0 (a .3) .long),
           lent-pass (length l) maxWires (b .0),
           lent-pass (length q) pairBytes (d .0),
           lent-pass (length c) tripleBytes (d .1),
@@ -82,13 +84,13 @@ module _ (n : ℕ) (w m out : List ℕ) (f : ℕ) (e : f ≡ newWeightsFault n w
   new-refused h = record { reply = refusal f (newWeightsFault n w m (length out)) e h; out-left = refl }
 
   module _ (z : f ≡ 0) where
-    pub new-fits : (n ≤ maxWires) × (length w ≡ weightBytes) × (length m ≡ weightBytes) × (length out ≡ weightBytes)
+    pub new-fits : (n ≤ maxWires) × SoundWeights weightBytes n w × SoundMarks weightBytes n m × (length out ≡ weightBytes)
     new-fits =
         let a = call-passes n (lentFault (length out) weightBytes) (orElse (weightsFault n w) (marksFault n m)) (sym e ∙ z) in
         let b = or-pass (weightsFault n w) (marksFault n m) (a .3) in (
           a .1,
-          weights-sound weightBytes n w .0 (b .0) .long,
-          marks-sound weightBytes n m .0 (b .1) .long,
+          weights-sound weightBytes n w .0 (b .0),
+          marks-sound weightBytes n m .0 (b .1),
           lent-pass (length out) weightBytes (a .2),
         )
 

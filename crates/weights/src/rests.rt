@@ -1,108 +1,104 @@
-// The new weights (document 01, "The new weights"): the rests of wires and of pairs as tables, then each parity's weight by them.
+// The new weights (document 01, "The new weights"): the rests of wires and of pairs, then each parity's weight by them. The rests are found by l and q of
+// the weights less the marks: modulo 8 and 4 these are l and q of the one less those of the other.
 ghost use mathlib.Core.Path.{_≡_};
 ghost use Prim.Native.Nat.{_+_, _*_, _<_, _≤_, _-_, _^_};
 ghost use lib.ListN.{length, getD};
 ghost use lib.Count.{trailingZeros};
+ghost use Rattle.gf2.specs.Over.{Below};
 ghost use Rattle.gf2.specs.Sum.{sum};
-ghost use Rattle.circuit.specs.Limits.{maxWires, weightBytes};
-ghost use Rattle.phase.specs.NewWeights.{pairRest, apart, oneRest, newWeights};
-ghost use Rattle.weights.specs.Rests.{oneRests, pairRests, restIn, weightIn};
-use crate::sums::l_of;
-use crate::sums::q_of;
+ghost use Rattle.circuit.specs.Limits.{maxWires, pairBytes, weightBytes};
+ghost use Rattle.circuit.specs.Sound.{SoundMarks, SoundWeights};
+ghost use Rattle.phase.specs.NewWeights.{apart, newWeights};
+ghost use Rattle.weights.specs.Rests.{difference, newIn, oneIn, oneRests, pairIn, restIn, weightIn, weightsIn};
+use crate::tables::l_entry;
+use crate::tables::put_q;
 use circuit::limits::MAX_WIRES;
 use circuit::limits::PAIR_BYTES;
 use circuit::limits::Parity;
 use circuit::limits::WEIGHT_BYTES;
 
-// The rest on wire i stands at i, that on wires i and j at 8 j + i.
-pub struct Rests {
-    pub one: [u8; MAX_WIRES],
-    pub pair: [u8; PAIR_BYTES],
-}
-
-// Internal: the caller has found no fault.
+// Internal: the caller has found no fault. From 2^n up the difference is 0, so that the sums go over the parities of n wires alone.
 pub fn put_new_weights(n: usize, w: &[u8], u: &[u8], out: &mut [u8])
-    requires { ⌜ (n ≤ maxWires) × (length (now w) ≡ weightBytes) × (length (now u) ≡ weightBytes) × (length (now out) ≡ weightBytes) ⌝ }
+    requires { ⌜ (n ≤ maxWires) × SoundWeights weightBytes n (now w) × SoundMarks weightBytes n (now u) × (length (now out) ≡ weightBytes) ⌝ }
     ensures { λ _. ⌜ now (out .exit) ≡ newWeights weightBytes n (now (w .entry)) (now (u .entry)) ⌝ }
 {
-    let t = all_rests(n, w, u);
-    for p in 0..WEIGHT_BYTES {
-        out[p] = new_weight(n, t, u[p], p);
+    let mut d = [0u8; WEIGHT_BYTES];
+    put_difference(w, u, &mut d);
+    put_by_difference(n, &d[..1 << n], u, out);
+}
+
+// The weights less the marks, modulo 8.
+fn put_difference(w: &[u8], u: &[u8], out: &mut [u8])
+    requires { ⌜ (length (now w) ≡ length (now out)) × (length (now u) ≡ length (now out)) × Below 8 (now w) × Below 2 (now u) ⌝ }
+    ensures { λ _. ⌜ now (out .exit) ≡ difference (now (w .entry)) (now (u .entry)) ⌝ }
+{
+    let mut p: usize = 0;
+    while p < w.len() {
+        out[p] = w[p] + 7 * u[p];
+        p += 1;
     }
 }
 
-fn all_rests(n: usize, w: &[u8], u: &[u8]) -> Rests
-    requires { ⌜ (n ≤ maxWires) × (length (now w) ≡ weightBytes) × (length (now u) ≡ weightBytes) ⌝ }
-    ensures { λ r. ⌜ (r .one ≡ oneRests maxWires n (now (w .entry)) (now (u .entry))) × (r .pair ≡ pairRests maxWires (now (w .entry)) (now (u .entry))) ⌝ }
+fn put_by_difference(n: usize, d: &[u8], u: &[u8], out: &mut [u8])
+    requires { ⌜ (n ≤ maxWires) × (length (now d) ≤ weightBytes) × (length (now u) ≡ weightBytes) × (length (now out) ≡ weightBytes) ⌝ }
+    ensures { λ _. ⌜ now (out .exit) ≡ newIn weightBytes maxWires n (now (d .entry)) (now (u .entry)) ⌝ }
 {
-    let pair = pair_rests(w, u);
-    let one = one_rests(n, w, u, pair);
-    Rests {
-        one: one,
-        pair: pair,
-    }
-}
-
-fn pair_rests(w: &[u8], u: &[u8]) -> [u8; PAIR_BYTES]
-    requires { ⌜ (length (now w) ≡ weightBytes) × (length (now u) ≡ weightBytes) ⌝ }
-    ensures { λ r. ⌜ r ≡ pairRests maxWires (now (w .entry)) (now (u .entry)) ⌝ }
-{
-    let mut pair = [0u8; PAIR_BYTES];
-    for p in 0..PAIR_BYTES {
-        pair[p] = pair_rest(w, u, p % MAX_WIRES, p / MAX_WIRES);
-    }
-    pair
-}
-
-// 6 where q of the two differs by 2, 0 where it is the same.
-fn pair_rest(w: &[u8], u: &[u8], i: usize, j: usize) -> u8
-    requires { ⌜ (length (now w) ≡ weightBytes) × (length (now u) ≡ weightBytes) × (i < maxWires) × (j < maxWires) ⌝ }
-    ensures { λ r. ⌜ r ≡ pairRest (now (w .entry)) (now (u .entry)) i j ⌝ }
-{
-    3 * ((q_of(w, i, j) + 3 * q_of(u, i, j)) % 4)
-}
-
-fn one_rests(n: usize, w: &[u8], u: &[u8], pair: [u8; PAIR_BYTES]) -> [u8; MAX_WIRES]
-    requires { ⌜ (n ≤ maxWires) × (length (now w) ≡ weightBytes) × (length (now u) ≡ weightBytes) × (pair ≡ pairRests maxWires (now w) (now u)) ⌝ }
-    ensures { λ r. ⌜ r ≡ oneRests maxWires n (now (w .entry)) (now (u .entry)) ⌝ }
-{
+    let mut q = [0u8; PAIR_BYTES];
+    put_q(n, d, &mut q);
     let mut one = [0u8; MAX_WIRES];
-    for i in 0..MAX_WIRES {
-        one[i] = one_rest(n, w, u, pair, i);
-    }
-    one
+    put_one_rests(n, d, &q, &mut one);
+    put_weights(n, &one, &q, u, out);
 }
 
-// What is left of l of w when l of u and the rests of the pairs with i are taken away.
-fn one_rest(n: usize, w: &[u8], u: &[u8], pair: [u8; PAIR_BYTES], i: usize) -> u8
-    requires { ⌜ (n ≤ maxWires) × (length (now w) ≡ weightBytes) × (length (now u) ≡ weightBytes) × (pair ≡ pairRests maxWires (now w) (now u)) × (i < maxWires) ⌝ }
-    ensures { λ r. ⌜ r ≡ oneRest n (now (w .entry)) (now (u .entry)) i ⌝ }
+fn put_one_rests(n: usize, d: &[u8], q: &[u8], out: &mut [u8])
+    requires { ⌜ (n ≤ maxWires) × (length (now d) ≤ weightBytes) × (length (now q) ≡ pairBytes) × (length (now out) ≡ maxWires) ⌝ }
+    ensures { λ _. ⌜ now (out .exit) ≡ oneRests maxWires n (now (d .entry)) (now (q .entry)) ⌝ }
 {
-    let s = pairs_with(n, pair, i);
-    ((l_of(w, i) as u32 + 7 * (l_of(u, i) as u32 + s)) % 8) as u8
+    for i in 0..MAX_WIRES {
+        out[i] = one_rest(n, d, q, i);
+    }
+}
+
+// What is left of l when the rests of the pairs with i are taken away.
+fn one_rest(n: usize, d: &[u8], q: &[u8], i: usize) -> u8
+    requires { ⌜ (n ≤ maxWires) × (length (now d) ≤ weightBytes) × (length (now q) ≡ pairBytes) × (i < maxWires) ⌝ }
+    ensures { λ r. ⌜ r ≡ oneIn maxWires n (now (d .entry)) (now (q .entry)) i ⌝ }
+{
+    let s = pairs_with(n, q, i);
+    ((l_entry(n, d, i) as u32 + 7 * s) % 8) as u8
 }
 
 // The rests of the pairs with wire i, summed.
-fn pairs_with(n: usize, pair: [u8; PAIR_BYTES], i: usize) -> u32
-    requires { ⌜ (n ≤ maxWires) × (i < maxWires) ⌝ }
-    ensures { λ r. ⌜ (r ≡ sum n (λ j. apart i j * getD pair (maxWires * j + i) 0)) × (r ≤ 255 * n) ⌝ }
+fn pairs_with(n: usize, q: &[u8], i: usize) -> u32
+    requires { ⌜ (n ≤ maxWires) × (length (now q) ≡ pairBytes) × (i < maxWires) ⌝ }
+    ensures { λ r. ⌜ (r ≡ sum n (λ j. apart i j * pairIn maxWires (now (q .entry)) i j)) × (r ≤ 765 * n) ⌝ }
 {
     let mut s: u32 = 0;
     for j in 0..n {
-        s += pair_with(pair, i, j);
+        s += pair_with(q, i, j);
     }
     s
 }
 
 // The rest of wires i and j, and nothing where they are one wire.
-fn pair_with(pair: [u8; PAIR_BYTES], i: usize, j: usize) -> u32
-    requires { ⌜ (i < maxWires) × (j < maxWires) ⌝ }
-    ensures { λ r. ⌜ (r ≡ apart i j * getD pair (maxWires * j + i) 0) × (r ≤ 255) ⌝ }
+fn pair_with(q: &[u8], i: usize, j: usize) -> u32
+    requires { ⌜ (length (now q) ≡ pairBytes) × (i < maxWires) × (j < maxWires) ⌝ }
+    ensures { λ r. ⌜ (r ≡ apart i j * pairIn maxWires (now (q .entry)) i j) × (r ≤ 765) ⌝ }
 {
     if i == j {
         return 0;
     }
-    wide(pair[MAX_WIRES * j + i])
+    if i < j {
+        return pair_rest(q[MAX_WIRES * j + i]);
+    }
+    pair_rest(q[MAX_WIRES * i + j])
+}
+
+// By q of the difference: 6 where q of weights and marks differs by 2, 0 where it is the same.
+fn pair_rest(x: u8) -> u32
+    ensures { λ r. ⌜ (r ≡ 3 * x) × (r ≤ 765) ⌝ }
+{
+    3 * wide(x)
 }
 
 fn wide(x: u8) -> u32
@@ -111,30 +107,40 @@ fn wide(x: u8) -> u32
     x as u32
 }
 
+fn put_weights(n: usize, one: &[u8], q: &[u8], u: &[u8], out: &mut [u8])
+    requires { ⌜ (n ≤ maxWires) × (length (now one) ≡ maxWires) × (length (now q) ≡ pairBytes) × (length (now u) ≡ weightBytes) × (length (now out) ≡ weightBytes) ⌝ }
+    ensures { λ _. ⌜ now (out .exit) ≡ weightsIn weightBytes maxWires n (now (one .entry)) (now (q .entry)) (now (u .entry)) ⌝ }
+{
+    for p in 0..WEIGHT_BYTES {
+        out[p] = new_weight(n, one, q, u[p], p);
+    }
+}
+
 // A member's 1, with the rest added; 0 from 2^n up.
-fn new_weight(n: usize, t: Rests, mark: u8, p: usize) -> u8
-    requires { ⌜ (n ≤ maxWires) × (p < weightBytes) ⌝ }
-    ensures { λ r. ⌜ r ≡ weightIn maxWires n (t .one) (t .pair) mark p ⌝ }
+fn new_weight(n: usize, one: &[u8], q: &[u8], mark: u8, p: usize) -> u8
+    requires { ⌜ (n ≤ maxWires) × (length (now one) ≡ maxWires) × (length (now q) ≡ pairBytes) × (p < weightBytes) ⌝ }
+    ensures { λ r. ⌜ r ≡ weightIn maxWires n (now (one .entry)) (now (q .entry)) mark p ⌝ }
 {
     if p >= 1 << n {
         return 0;
     }
-    let rest = rest_in(t, p as Parity);
-    ((mark as u32 + rest as u32) % 8) as u8
+    let rest = rest_in(one, q, p as Parity);
+    ((mark as u32 + rest) % 8) as u8
 }
 
 // The rest on p: one wire, two, or more.
-fn rest_in(t: Rests, p: Parity) -> u8
-    ensures { λ r. ⌜ r ≡ restIn maxWires (t .one) (t .pair) p ⌝ }
+fn rest_in(one: &[u8], q: &[u8], p: Parity) -> u32
+    requires { ⌜ (length (now one) ≡ maxWires) × (length (now q) ≡ pairBytes) ⌝ }
+    ensures { λ r. ⌜ (r ≡ restIn maxWires (now (one .entry)) (now (q .entry)) p) × (r ≤ 765) ⌝ }
 {
     let o = u8::count_ones(p);
     let i = lowest(p);
     if o == 1 {
-        return t.one[i];
+        return wide(one[i]);
     }
     if o == 2 {
         let j = lowest(without(p, i));
-        return t.pair[MAX_WIRES * j + i];
+        return pair_rest(q[MAX_WIRES * j + i]);
     }
     0
 }

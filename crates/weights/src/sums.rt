@@ -1,4 +1,4 @@
-// The coefficients l, q and c of weights (document 01, "Signature"). Internal: the caller brings 256 weights and wires below the most.
+// The coefficients l, q and c of weights (document 01, "Signature"). Internal: the caller brings at most 256 weights and wires below the most.
 ghost use mathlib.Core.Path.{_≡_};
 ghost use Prim.Native.Nat.{_*_, _<_, _≤_};
 ghost use lib.IntN.{pos};
@@ -10,7 +10,7 @@ ghost use Rattle.weights.specs.Sums.{sumWith, quarterOf};
 
 // The sum of the weights of parities with i, modulo 8.
 pub fn l_of(w: &[u8], i: usize) -> u8
-    requires { ⌜ (length (now w) ≡ weightBytes) × (i < maxWires) ⌝ }
+    requires { ⌜ (length (now w) ≤ weightBytes) × (i < maxWires) ⌝ }
     ensures { λ r. ⌜ (r ≡ l (now (w .entry)) i) × (r < 8) ⌝ }
 {
     (sum_with(w, i, i, i) % 8) as u8
@@ -18,7 +18,7 @@ pub fn l_of(w: &[u8], i: usize) -> u8
 
 // Minus the sum of the weights of parities with i and j, brought back to 0..3.
 pub fn q_of(w: &[u8], i: usize, j: usize) -> u8
-    requires { ⌜ (length (now w) ≡ weightBytes) × (i < maxWires) × (j < maxWires) ⌝ }
+    requires { ⌜ (length (now w) ≤ weightBytes) × (i < maxWires) × (j < maxWires) ⌝ }
     ensures { λ r. ⌜ (r ≡ q (now (w .entry)) i j) × (r < 4) ⌝ }
 {
     let s = sum_with(w, i, j, j);
@@ -34,7 +34,7 @@ fn quarters(t: i32) -> u8
 
 // The sum of the weights of parities with all three, modulo 2.
 pub fn c_of(w: &[u8], i: usize, j: usize, k: usize) -> u8
-    requires { ⌜ (length (now w) ≡ weightBytes) × (i < maxWires) × (j < maxWires) × (k < maxWires) ⌝ }
+    requires { ⌜ (length (now w) ≤ weightBytes) × (i < maxWires) × (j < maxWires) × (k < maxWires) ⌝ }
     ensures { λ r. ⌜ r ≡ c (now (w .entry)) i j k ⌝ }
 {
     (sum_with(w, i, j, k) % 2) as u8
@@ -42,7 +42,7 @@ pub fn c_of(w: &[u8], i: usize, j: usize, k: usize) -> u8
 
 // The sum of the weights of parities with i, j and k, which need not differ.
 fn sum_with(w: &[u8], i: usize, j: usize, k: usize) -> i32
-    requires { ⌜ (length (now w) ≡ weightBytes) × (i < maxWires) × (j < maxWires) × (k < maxWires) ⌝ }
+    requires { ⌜ (length (now w) ≤ weightBytes) × (i < maxWires) × (j < maxWires) × (k < maxWires) ⌝ }
     ensures { λ r. ⌜ (r ≡ pos (sumWith (now (w .entry)) i j k)) × (sumWith (now (w .entry)) i j k ≤ 255 * weightBytes) ⌝ }
 {
     let mut s: i32 = 0;

@@ -1,6 +1,6 @@
 // Tables of the coefficients, for wires i < j < k below n, and 0 elsewhere. Internal: the caller has found no fault.
 ghost use mathlib.Core.Path.{_≡_};
-ghost use Prim.Native.Nat.{_<_};
+ghost use Prim.Native.Nat.{_<_, _≤_};
 ghost use lib.ListN.{length};
 ghost use Rattle.circuit.specs.Limits.{maxWires, pairBytes, tripleBytes, weightBytes};
 ghost use Rattle.weights.specs.Tables.{lEntry, qEntry, cEntry, lTable, qTable, cTable};
@@ -13,7 +13,7 @@ use circuit::limits::TRIPLE_BYTES;
 
 // l(i) at i, for the wires below n.
 pub fn put_l(n: usize, w: &[u8], out: &mut [u8])
-    requires { ⌜ (length (now w) ≡ weightBytes) × (length (now out) ≡ maxWires) ⌝ }
+    requires { ⌜ (length (now w) ≤ weightBytes) × (length (now out) ≡ maxWires) ⌝ }
     ensures { λ _. ⌜ now (out .exit) ≡ lTable maxWires n (now (w .entry)) ⌝ }
 {
     for i in 0..MAX_WIRES {
@@ -21,8 +21,8 @@ pub fn put_l(n: usize, w: &[u8], out: &mut [u8])
     }
 }
 
-fn l_entry(n: usize, w: &[u8], i: usize) -> u8
-    requires { ⌜ (length (now w) ≡ weightBytes) × (i < maxWires) ⌝ }
+pub fn l_entry(n: usize, w: &[u8], i: usize) -> u8
+    requires { ⌜ (length (now w) ≤ weightBytes) × (i < maxWires) ⌝ }
     ensures { λ r. ⌜ r ≡ lEntry n (now (w .entry)) i ⌝ }
 {
     if i < n { l_of(w, i) } else { 0 }
@@ -30,7 +30,7 @@ fn l_entry(n: usize, w: &[u8], i: usize) -> u8
 
 // q(i, j) at 8 j + i, for wires i < j below n.
 pub fn put_q(n: usize, w: &[u8], out: &mut [u8])
-    requires { ⌜ (length (now w) ≡ weightBytes) × (length (now out) ≡ pairBytes) ⌝ }
+    requires { ⌜ (length (now w) ≤ weightBytes) × (length (now out) ≡ pairBytes) ⌝ }
     ensures { λ _. ⌜ now (out .exit) ≡ qTable maxWires n (now (w .entry)) ⌝ }
 {
     for p in 0..PAIR_BYTES {
@@ -39,7 +39,7 @@ pub fn put_q(n: usize, w: &[u8], out: &mut [u8])
 }
 
 fn q_entry(n: usize, w: &[u8], i: usize, j: usize) -> u8
-    requires { ⌜ (length (now w) ≡ weightBytes) × (j < maxWires) ⌝ }
+    requires { ⌜ (length (now w) ≤ weightBytes) × (j < maxWires) ⌝ }
     ensures { λ r. ⌜ r ≡ qEntry n (now (w .entry)) i j ⌝ }
 {
     if i >= j {
@@ -50,7 +50,7 @@ fn q_entry(n: usize, w: &[u8], i: usize, j: usize) -> u8
 
 // c(i, j, k) at 64 k + 8 j + i, for wires i < j < k below n.
 pub fn put_c(n: usize, w: &[u8], out: &mut [u8])
-    requires { ⌜ (length (now w) ≡ weightBytes) × (length (now out) ≡ tripleBytes) ⌝ }
+    requires { ⌜ (length (now w) ≤ weightBytes) × (length (now out) ≡ tripleBytes) ⌝ }
     ensures { λ _. ⌜ now (out .exit) ≡ cTable maxWires n (now (w .entry)) ⌝ }
 {
     for p in 0..TRIPLE_BYTES {
@@ -65,7 +65,7 @@ pub fn put_c(n: usize, w: &[u8], out: &mut [u8])
 }
 
 fn c_entry(n: usize, w: &[u8], i: usize, j: usize, k: usize) -> u8
-    requires { ⌜ (length (now w) ≡ weightBytes) × (k < maxWires) ⌝ }
+    requires { ⌜ (length (now w) ≤ weightBytes) × (k < maxWires) ⌝ }
     ensures { λ r. ⌜ r ≡ cEntry n (now (w .entry)) i j k ⌝ }
 {
     if i >= j {

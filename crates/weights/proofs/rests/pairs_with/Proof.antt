@@ -3,6 +3,7 @@ use mathlib.Core.Path.{refl, _≡_}
 use Prim.Native.Nat.{_*_, _-_, _≤_}
 use native.Mathlib.Omega.{arith}
 use borrow.Author.Needs.{needs}
+use denote.Ref.{now}
 use Rattle.circuit.specs.Limits.{maxWires}
 use Rattle.gf2.specs.Sum.{sum}
 use Rattle.weights.proofs.RestSteps.{others, others-next}
@@ -10,10 +11,10 @@ use Rattle.weights.proofs.rests.pairs_with.Statement.{statement}
 use Rattle.weights.proofs.rests.pairs_with.Tie as tie
 
 abbrev Inv-loop : tie.InvT-loop
-Inv-loop n pair i s₀ j₀ s j = (j ≤ n) × (s ≡ others pair maxWires i j) × (s ≤ 255 * j)
+Inv-loop n q i s₀ j₀ s j = (j ≤ n) × (s ≡ others q maxWires i j) × (s ≤ 765 * j)
 
 abbrev μ-loop : tie.MeasureT-loop
-μ-loop n pair i s₀ j₀ s j = n - j
+μ-loop n q i s₀ j₀ s j = n - j
 
 loop-holds : tie.Need-loop-holds Inv-loop μ-loop
 unfolding sum
@@ -34,13 +35,13 @@ loop-less c = search needs
 loop-again : tie.Need-loop-again Inv-loop μ-loop
 loop-again c =
     let at = c .before .before in
-    let a = at .before .args in
-    (search needs, others-next (a .pair) maxWires (a .i) (at .loop .j) (at .loop .s) (c .pair-with .result) (at .loop .inv .1) (c .pair-with .ensures .0), search needs)
+    let a = at .before .before .args in
+    (search needs, others-next (now (a .q)) maxWires (a .i) (at .loop .j) (at .loop .s) (c .pair-with .result) (at .loop .inv .1) (c .pair-with .ensures .0), search needs)
 
 returns : tie.Need-returns Inv-loop μ-loop
 returns c =
     let at = c .before in
-    let a = at .before .args in
+    let a = at .before .before .args in
     let e : at .loop .j ≡ a .n = omega arith in
     (rw e at (at .loop .inv .1), search needs)
 

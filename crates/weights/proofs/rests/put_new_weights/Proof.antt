@@ -1,83 +1,64 @@
--- The output is filled from the front.
-use mathlib.Core.Path.{_∙_, _≡_}
-use Prim.Native.Nat.{_-_, _≤_}
+-- The difference, and the new weights by it.
+use mathlib.Core.Path.{sym}
+use Prim.Native.Nat.{_%_, _*_, _^_}
 use native.Mathlib.Omega.{arith}
-use lib.ListN.{length, length-set}
 use lib.Pow.{pow-mono}
+use lib.Seq.{length-take-le}
 use borrow.Author.Needs.{needs}
 use denote.Ref.{now}
+use Rattle.circuit.proofs.Steps.{shifted}
 use Rattle.circuit.specs.Limits.{maxWires, weightBytes}
-use Rattle.gf2.proofs.Table.{Filled, filled-all, filled-next, filled-none}
-use Rattle.phase.specs.NewWeights.{newWeights}
-use Rattle.weights.proofs.RestSteps.{length-new, weight-in-table}
+use Rattle.weights.proofs.RestSteps.{new-made}
 use Rattle.weights.proofs.rests.put_new_weights.Statement.{statement}
 use Rattle.weights.proofs.rests.put_new_weights.Tie as tie
 
-abbrev Inv-loop : tie.InvT-loop
-Inv-loop n w u out₀ t p₀ out p = (p ≤ weightBytes) × (length out ≡ weightBytes) × Filled out (newWeights weightBytes n w u) p
+slice-aggregate-put-difference : tie.Need-slice-aggregate-put-difference
+slice-aggregate-put-difference c = search needs
 
-abbrev μ-loop : tie.MeasureT-loop
-μ-loop n w u out₀ t p₀ out p = weightBytes - p
+put-difference-requires : tie.Need-put-difference-requires
+put-difference-requires c κs =
+    let s = c .before .before .before .before .pre in
+    (omega (arith, s .1 .long), omega (arith, s .2 .long), λ p h. s .1 .small p, λ p h. s .2 .bits p)
 
-all-rests-requires : tie.Need-all-rests-requires Inv-loop μ-loop
-all-rests-requires c κs = search needs
+shl-d : tie.Need-shl-d
+shl-d c = search needs
 
-loop-holds : tie.Need-loop-holds Inv-loop μ-loop
-loop-holds c =
-    let a = c .before .before .before .before .args in
-    (search needs, search needs, filled-none (now (a .out)) (newWeights weightBytes (a .n) (now (a .w)) (now (a .u))))
+array-share-prefix-d : tie.Need-array-share-prefix-d
+array-share-prefix-d c =
+    let a = c .before .before .before .before .before .before .args in
+    let fit = c .before .before .before .before .before .before .pre .0 in
+    let e = shifted 64 (a .n) (omega arith) in
+    let le = pow-mono {i = a .n} {j = maxWires} fit in
+    omega (arith, e, le)
 
-shared-slice-read-new-weight : tie.Need-shared-slice-read-new-weight Inv-loop μ-loop
-shared-slice-read-new-weight c = search needs
+slice-aggregate-put-by-difference : tie.Need-slice-aggregate-put-by-difference
+slice-aggregate-put-by-difference c =
+    let a = c .before .before .before .before .before .before .before .args in
+    let fit = c .before .before .before .before .before .before .before .pre .0 in
+    let e = shifted 64 (a .n) (omega arith) in
+    let le = pow-mono {i = a .n} {j = maxWires} fit in
+    sym (length-take-le (1 * 2 ^ a .n % 2 ^ 64) (c .before .before .put-difference .last .1 .1 .0) (omega (arith, e, le)))
 
-new-weight-requires : tie.Need-new-weight-requires Inv-loop μ-loop
-new-weight-requires c κs = search needs
+put-by-difference-requires : tie.Need-put-by-difference-requires
+put-by-difference-requires c κs =
+    let a = c .before .before .before .before .before .before .before .before .args in
+    let fit = c .before .before .before .before .before .before .before .before .pre .0 in
+    let e = shifted 64 (a .n) (omega arith) in
+    let le = pow-mono {i = a .n} {j = maxWires} fit in
+    let pre = c .before .before .before .before .before .before .before .before .pre in
+    (fit, omega (arith, e, le, length-take-le (1 * 2 ^ a .n % 2 ^ 64) (c .before .before .before .put-difference .last .1 .1 .0) (omega (arith, e, le))), pre .2 .long, pre .3)
 
-slice-write-out : tie.Need-slice-write-out Inv-loop μ-loop
-slice-write-out c = search needs
-
-add-p : tie.Need-add-p Inv-loop μ-loop
-add-p c = search needs
-
-loop-less : tie.Need-loop-less Inv-loop μ-loop
-loop-less c = search needs
-
-loop-again : tie.Need-loop-again Inv-loop μ-loop
-loop-again c =
-    let at = c .before .before .before in
-    let a = at .before .before .before .before .before .args in
-    let t = at .before .all-rests in
-    let v = newWeights weightBytes (a .n) (now (a .w)) (now (a .u)) in
-    let p = at .loop .p in (
-      search needs,
-      simp length-set (omega arith),
-      filled-next (at .loop .out) v p (c .new-weight .result) (omega arith) (at .loop .inv .2)
-          (c .new-weight .ensures ∙ weight-in-table maxWires (a .n) weightBytes (now (a .w)) (now (a .u)) (t .result .one) (t .result .pair) p (at .before .before .before .before .before .pre .0) (t .ensures .0) (t .ensures .1)),
-    )
-
-same-length : tie.Need-same-length Inv-loop μ-loop
+same-length : tie.Need-same-length
 same-length c = search needs
 
-returns : tie.Need-returns Inv-loop μ-loop
+returns : tie.Need-returns
 returns c =
-    let at = c .before in
-    let a = at .before .before .before .before .before .args in
-    let e = length-new weightBytes (a .n) (now (a .w)) (now (a .u)) (pow-mono {i = a .n} {j = maxWires} (at .before .before .before .before .before .pre .0)) in
-    filled-all (at .loop .out) (newWeights weightBytes (a .n) (now (a .w)) (now (a .u))) (at .loop .p) (omega (arith, e)) (omega (arith, e)) (at .loop .inv .2)
+    let a = c .before .before .before .before .before .before .before .before .before .before .before .args in
+    let fit = c .before .before .before .before .before .before .before .before .before .before .before .pre .0 in
+    let e = shifted 64 (a .n) (omega arith) in
+    let le = pow-mono {i = a .n} {j = maxWires} fit in
+    let pre = c .before .before .before .before .before .before .before .before .before .before .before .pre in
+    new-made weightBytes maxWires (a .n) (1 * 2 ^ a .n % 2 ^ 64) (now (a .w)) (now (a .u)) (c .before .before .before .before .before .before .put-difference .last .1 .1 .0) _ fit le (pre .1) (pre .2) e (c .before .before .before .before .before .before .put-difference .ensures) (c .before .before .put-by-difference .ensures)
 
 pub put-new-weights-spec : {M : Type 1} → statement M
-put-new-weights-spec =
-    tie.close
-    (tie.spec
-    Inv-loop
-    μ-loop
-    all-rests-requires
-    loop-holds
-    shared-slice-read-new-weight
-    new-weight-requires
-    slice-write-out
-    add-p
-    loop-less
-    loop-again
-    same-length
-    returns)
+put-new-weights-spec = tie.close (tie.spec slice-aggregate-put-difference put-difference-requires shl-d array-share-prefix-d slice-aggregate-put-by-difference put-by-difference-requires same-length returns)
