@@ -7,6 +7,7 @@ ghost use Rattle.gf2.specs.Bit.{bit};
 ghost use Rattle.circuit.specs.Limits.{maxWires, weightBytes};
 ghost use Rattle.phase.specs.Coefficients.{c, l, q};
 ghost use Rattle.weights.specs.Sums.{sumWith, quarterOf};
+use circuit::limits::Parity;
 
 // The sum of the weights of parities with i, modulo 8.
 pub fn l_of(w: &[u8], i: usize) -> u8
@@ -48,14 +49,14 @@ fn sum_with(w: &[u8], i: usize, j: usize, k: usize) -> i32
     let mut s: i32 = 0;
     let mut p: usize = 0;
     while p < w.len() {
-        s += share(w[p], p, i, j, k);
+        s += share(w[p], p as Parity, i, j, k);
         p += 1;
     }
     s
 }
 
 // The weight x of p, if p names i, j and k.
-fn share(x: u8, p: usize, i: usize, j: usize, k: usize) -> i32
+fn share(x: u8, p: Parity, i: usize, j: usize, k: usize) -> i32
     requires { ⌜ (i < maxWires) × (j < maxWires) × (k < maxWires) ⌝ }
     ensures { λ r. ⌜ r ≡ pos (x * (bit p i * bit p j * bit p k)) ⌝ }
 {

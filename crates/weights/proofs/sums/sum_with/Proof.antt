@@ -24,6 +24,9 @@ loop-holds c = (omega arith, refl, omega arith)
 shared-slice-read-share : tie.Need-shared-slice-read-share Inv-loop μ-loop
 shared-slice-read-share c = search needs
 
+cast-share : tie.Need-cast-share Inv-loop μ-loop
+cast-share c = search needs
+
 share-requires : tie.Need-share-requires Inv-loop μ-loop
 share-requires c κs = search needs
 
@@ -72,6 +75,7 @@ sum-with-spec =
     μ-loop
     loop-holds
     shared-slice-read-share
+    cast-share
     share-requires
     add-s
     add-p
