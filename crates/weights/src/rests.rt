@@ -2,7 +2,7 @@
 // the weights less the marks: modulo 8 and 4 these are l and q of the one less those of the other.
 ghost use mathlib.Core.Path.{_≡_};
 ghost use Prim.Native.Nat.{_+_, _*_, _<_, _≤_, _-_, _^_};
-ghost use lib.ListN.{length, getD};
+ghost use lib.ListN.{length};
 ghost use lib.Count.{trailingZeros};
 ghost use Rattle.gf2.specs.Over.{Below};
 ghost use Rattle.gf2.specs.Sum.{sum};

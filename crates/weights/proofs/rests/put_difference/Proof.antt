@@ -1,5 +1,5 @@
 -- The difference is filled from the front.
-use mathlib.Core.Path.{sym, _≡_}
+use mathlib.Core.Path.{_≡_}
 use Prim.Native.Nat.{_*_, _+_, _-_, _≤_}
 use native.Mathlib.Omega.{arith}
 use lib.ListN.{getD, length, length-set}
