@@ -1,20 +1,21 @@
 -- One turn, and the end, of each loop of the code, and each way out of a match, over plain numbers and lists.
-use mathlib.Core.List.{List}
+use mathlib.Core.List.{List, _∷_}
 use mathlib.Core.Logic.{_≢_}
-use mathlib.Core.Path.{ap, ap₂, refl, subst, sym, _∙_, _≡_}
+use mathlib.Core.Path.{ap, refl, subst, sym, _∙_, _≡_}
 use Prim.Native.Nat.{_%_, _*_, _+_, _/_, _<_, _^_, suc, ℕ, _≤_}
 use native.Mathlib.Nat.{mod-eq-of-lt, one-mul}
 use native.Mathlib.Numerals.{add-one}
-use lib.ListN.{getD, length}
+use native.Mathlib.Omega.{arith}
+use lib.Bits.{bitXor}
+use lib.ListN.{getD, length, set}
 use lib.Pow.{pow-lt}
 use Rattle.gf2.proofs.Table.{getD-tabulate}
-use Rattle.gf2.specs.Table.{addAt}
 use Rattle.circuit.proofs.Bytes.{byteGate, gates-step, gates-tail, gatesFrom}
 use Rattle.circuit.proofs.Judging.{refused}
 use Rattle.circuit.proofs.Sound.{gate-keeps}
-use Rattle.circuit.specs.Faults.{AllWellFormed, KindWellFormed, WellFormed, firstFault, gateFault}
+use Rattle.circuit.specs.Faults.{AllWellFormed, KindWellFormed, firstFault, gateFault}
 use Rattle.circuit.specs.Gate.{Gate, gate, kindOf}
-use Rattle.circuit.specs.Read.{Reading, firstRow, firstRows, joinRows, readFrom, readGate, readKind}
+use Rattle.circuit.specs.Read.{Reading, firstRow, firstRows, readFrom, readKind}
 use Rattle.circuit.specs.Sound.{SoundReading}
 use Rattle.circuit.specs.declared.gates.Kind.{Kind}
 use Rattle.circuit.specs.declared.gates.Kind.the-variants.{Cnot, Phase, Unknown}
@@ -36,46 +37,63 @@ pub no-fault : (n : ℕ) (bytes : List ℕ) (i : ℕ) → i ≡ length bytes / 3
 unfolding firstFault
 no-fault n bytes i e = rw (gates-tail bytes i e)
 
--- ---- reading a gate
+-- ---- reading the list, gate by gate
 
 -- the code's tables as a reading
 abbrev pub tables : List ℕ → List ℕ → Reading
 tables w rows = record { weights = w; rows = rows }
 
-module _ (n kind a b : ℕ) (k : Kind) (e : k ≡ kindOf kind) where
-  pub formed-kind : WellFormed n (gate kind a b) → KindWellFormed n k a b
-  formed-kind f = subst (λ (k : Kind). KindWellFormed n k a b) (sym e) f
+-- gate i is to be read next: the gates from i on are well formed, the tables so far sound, and what is left of the list gives the whole from them
+abbrev pub ReadTo : ℕ → ℕ → List ℕ → Reading → ℕ → Reading → Type 0
+ReadTo N n bytes whole i r = AllWellFormed n (gatesFrom bytes i) × SoundReading N n r × (readFrom (gatesFrom bytes i) r ≡ whole)
 
-  pub reads-kind : (r s : Reading) → s ≡ readKind k a b r → s ≡ readGate (gate kind a b) r
-  reads-kind r s h = h ∙ ap (λ (k : Kind). readKind k a b r) e
+module _ (N n : ℕ) (fit : n ≤ N) (bytes : List ℕ) (whole : Reading) (i : ℕ) (inside : 3 * i + 2 < length bytes) (w rows : List ℕ)
+    (to : ReadTo N n bytes whole i (tables w rows)) where
+  abbrev kind : ℕ
+  kind = getD bytes (3 * i) 0
 
-pub reads-join : (a b : ℕ) (w rows w′ rows′ : List ℕ) → w′ ≡ w → rows′ ≡ joinRows a b rows → tables w′ rows′ ≡ readKind Cnot a b (tables w rows)
-unfolding readKind
-reads-join a b w rows w′ rows′ f g = ap₂ tables f g
+  abbrev a : ℕ
+  a = getD bytes (3 * i + 1) 0
 
-pub reads-turn : (v a b : ℕ) (w rows w′ rows′ : List ℕ) → w′ ≡ addAt 8 w (getD rows a 0) v → rows′ ≡ rows → tables w′ rows′ ≡ readKind (Phase v) a b (tables w rows)
-unfolding readKind
-reads-turn v a b w rows w′ rows′ f g = ap₂ tables f g
+  abbrev b : ℕ
+  b = getD bytes (3 * i + 2) 0
 
-pub reads-none : (a b : ℕ) (r : Reading) → r ≡ readKind Unknown a b r
-unfolding readKind
-reads-none a b r = refl
+  step : AllWellFormed n (gate kind a b ∷ gatesFrom bytes (i + 1))
+  step = rw (gates-step bytes i inside) at (to .0)
 
--- ---- reading the list
+  -- its kind byte says k
+  module _ (k : Kind) (is : k ≡ kindOf kind) where
+    formed : KindWellFormed n k a b
+    formed = subst (λ (k : Kind). KindWellFormed n k a b) (sym is) (step .0)
 
-module _ (n : ℕ) (bytes : List ℕ) (i : ℕ) (inside : 3 * i + 2 < length bytes) where
-  pub formed-here : AllWellFormed n (gatesFrom bytes i) → WellFormed n (byteGate bytes i)
-  formed-here f = (rw (gates-step bytes i inside) at f) .0
+    read-on : (r : Reading) → r ≡ readKind k a b (tables w rows) → ReadTo N n bytes whole (i + 1) r
+    unfolding readFrom
+    read-on r e =
+        rw (e, is) (
+          step .1,
+          gate-keeps N n fit (gate kind a b) (tables w rows) (step .0) (to .1),
+          sym (ap (λ (gs : List Gate). readFrom gs (tables w rows)) (gates-step bytes i inside)) ∙ to .2,
+        )
 
-  pub formed-next : AllWellFormed n (gatesFrom bytes i) → AllWellFormed n (gatesFrom bytes (i + 1))
-  formed-next f = (rw (gates-step bytes i inside) at f) .1
+  module _ (is : Cnot ≡ kindOf kind) where
+    pub cnot-wires : (a < N) × (b < N)
+    cnot-wires = let f = formed Cnot is in (omega (arith, f .0), omega (arith, f .1))
 
-  pub sound-next : (N : ℕ) → n ≤ N → AllWellFormed n (gatesFrom bytes i) → (r s : Reading) → s ≡ readGate (byteGate bytes i) r → SoundReading N n r → SoundReading N n s
-  sound-next N fit f r s e o = subst (λ (x : Reading). SoundReading N n x) (sym e) (gate-keeps N n fit (byteGate bytes i) r (formed-here f) o)
+    pub cnot-on : (j x : ℕ) → j ≡ b → x ≡ bitXor (getD rows b 0) (getD rows a 0) → ReadTo N n bytes whole (i + 1) (tables w (set rows j x))
+    unfolding readKind
+    cnot-on j x e f = read-on Cnot is (tables w (set rows j x)) (rw (e, f))
 
-  pub reads-next : (r s : Reading) → s ≡ readGate (byteGate bytes i) r → readFrom (gatesFrom bytes (i + 1)) s ≡ readFrom (gatesFrom bytes i) r
-  unfolding readFrom
-  reads-next r s e = ap (readFrom (gatesFrom bytes (i + 1))) e ∙ sym (ap (λ (gs : List Gate). readFrom gs r) (gates-step bytes i inside))
+  module _ (v : ℕ) (is : Phase v ≡ kindOf kind) where
+    pub phase-wire : a < N
+    phase-wire = omega (arith, formed (Phase v) is .0)
+
+    pub phase-on : (q x : ℕ) → q ≡ getD rows a 0 → x ≡ (getD w q 0 + v) % 8 → ReadTo N n bytes whole (i + 1) (tables (set w q x) rows)
+    unfolding readKind
+    phase-on q x e f = read-on (Phase v) is (tables (set w q x) rows) (rw (f, e))
+
+  pub unknown-on : Unknown ≡ kindOf kind → ReadTo N n bytes whole (i + 1) (tables w rows)
+  unfolding readKind
+  unknown-on is = read-on Unknown is (tables w rows) refl
 
 pub reads-end : (bytes : List ℕ) (i : ℕ) (r : Reading) → i ≡ length bytes / 3 → r ≡ readFrom (gatesFrom bytes i) r
 unfolding readFrom

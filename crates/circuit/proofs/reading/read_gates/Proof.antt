@@ -1,15 +1,14 @@
--- Reading the gates from gate i on, from the tables so far, gives the reading of the list.
+-- Reading the gates from gate g on, from the tables so far, gives the reading of the list.
 use mathlib.Core.Path.{ap, subst, sym, _∙_, _≡_}
-use Prim.Native.Nat.{_-_, _/_, _≤_}
+use Prim.Native.Nat.{_*_, _-_, _/_, _≤_}
 use native.Mathlib.Omega.{arith}
-use lib.ListN.{length}
+use lib.ListN.{getD, length}
 use borrow.Author.Needs.{needs}
 use denote.Ref.{now}
-use Rattle.circuit.proofs.Bytes.{gatesFrom}
+use Rattle.circuit.proofs.GateKinds.{phase-lt}
 use Rattle.circuit.proofs.Sound.{start-sound}
-use Rattle.circuit.proofs.Steps.{formed-here, formed-next, reads-end, reads-next, sound-next}
+use Rattle.circuit.proofs.Steps.{ReadTo, cnot-on, cnot-wires, phase-on, phase-wire, reads-end, unknown-on}
 use Rattle.circuit.specs.Entry.{readBytes, readingOf}
-use Rattle.circuit.specs.Faults.{AllWellFormed}
 use Rattle.circuit.specs.Gate.{gatesOf}
 use Rattle.circuit.specs.Limits.{gateBytes, maxWires}
 use Rattle.circuit.specs.Read.{Reading, readFrom}
@@ -18,15 +17,10 @@ use Rattle.circuit.proofs.reading.read_gates.Statement.{statement}
 use Rattle.circuit.proofs.reading.read_gates.Tie as tie
 
 abbrev Inv-loop : tie.InvT-loop
-Inv-loop n gates t₀ m i₀ t i =
-    (i ≤ m)
-    × (m ≡ length gates / gateBytes)
-    × AllWellFormed n (gatesFrom gates i)
-    × SoundReading maxWires n (readingOf t)
-    × (readFrom (gatesFrom gates i) (readingOf t) ≡ readBytes n gates)
+Inv-loop n gates t₀ m g₀ t g = (g ≤ m) × (m ≡ length gates / gateBytes) × ReadTo maxWires n gates (readBytes n gates) g (readingOf t)
 
 abbrev μ-loop : tie.MeasureT-loop
-μ-loop n gates t₀ m i₀ t i = m - i
+μ-loop n gates t₀ m g₀ t g = m - g
 
 first-tables-requires : tie.Need-first-tables-requires Inv-loop μ-loop
 first-tables-requires c κs = search needs
@@ -38,88 +32,120 @@ loop-holds c =
     let e = c .first-tables .ensures in (
       search needs,
       search needs,
-      p .1,
-      subst (λ (x : Reading). SoundReading maxWires (a .n) x) (sym e) (start-sound maxWires (a .n) (p .0)),
-      ap (readFrom (gatesOf (now (a .gates)))) e,
+      (p .1, subst (λ (x : Reading). SoundReading maxWires (a .n) x) (sym e) (start-sound maxWires (a .n) (p .0)), ap (readFrom (gatesOf (now (a .gates)))) e),
     )
 
-mul-read-gate : tie.Need-mul-read-gate Inv-loop μ-loop
-mul-read-gate c = search needs
+mul-kind-of : tie.Need-mul-kind-of Inv-loop μ-loop
+mul-kind-of c = search needs
 
-shared-slice-read-read-gate : tie.Need-shared-slice-read-read-gate Inv-loop μ-loop
-shared-slice-read-read-gate c = search needs
+shared-slice-read-kind-of : tie.Need-shared-slice-read-kind-of Inv-loop μ-loop
+shared-slice-read-kind-of c = search needs
 
-mul-read-gate-2 : tie.Need-mul-read-gate-2 Inv-loop μ-loop
-mul-read-gate-2 c = search needs
+kind-of-requires : tie.Need-kind-of-requires Inv-loop μ-loop
+kind-of-requires c κs = search needs
 
-add-read-gate : tie.Need-add-read-gate Inv-loop μ-loop
-add-read-gate c = search needs
+mul-a : tie.Need-mul-a Inv-loop μ-loop
+mul-a c = search needs
 
-shared-slice-read-read-gate-2 : tie.Need-shared-slice-read-read-gate-2 Inv-loop μ-loop
-shared-slice-read-read-gate-2 c = search needs
+add-a : tie.Need-add-a Inv-loop μ-loop
+add-a c = search needs
 
-mul-read-gate-3 : tie.Need-mul-read-gate-3 Inv-loop μ-loop
-mul-read-gate-3 c = search needs
+shared-slice-read-a : tie.Need-shared-slice-read-a Inv-loop μ-loop
+shared-slice-read-a c = search needs
 
-add-read-gate-2 : tie.Need-add-read-gate-2 Inv-loop μ-loop
-add-read-gate-2 c = search needs
+mul-b : tie.Need-mul-b Inv-loop μ-loop
+mul-b c = search needs
 
-shared-slice-read-read-gate-3 : tie.Need-shared-slice-read-read-gate-3 Inv-loop μ-loop
-shared-slice-read-read-gate-3 c = search needs
+add-b : tie.Need-add-b Inv-loop μ-loop
+add-b c = search needs
 
-read-gate-requires : tie.Need-read-gate-requires Inv-loop μ-loop
-read-gate-requires c κs =
-    let at = c .before .before .before .before in
+shared-slice-read-b : tie.Need-shared-slice-read-b Inv-loop μ-loop
+shared-slice-read-b c = search needs
+
+add-g : tie.Need-add-g Inv-loop μ-loop
+add-g c = search needs
+
+enum-told : tie.Need-enum-told Inv-loop μ-loop
+enum-told c = search needs
+
+index-of-requires : tie.Need-index-of-requires Inv-loop μ-loop
+index-of-requires c κs = search needs
+
+joined-requires : tie.Need-joined-requires Inv-loop μ-loop
+joined-requires c κs =
+    let at = c .before .before .before .before .before .before .before .before .before in
     let a = at .before .before .before .args in
-    let p = at .before .before .before .pre in
-    (p .0, formed-here (a .n) (now (a .gates)) (at .loop .i) (omega arith) (at .loop .inv .2), at .loop .inv .3)
+    let g = now (a .gates) in
+    cnot-wires maxWires (a .n) (at .before .before .before .pre .0) g (readBytes (a .n) g) (at .loop .g) (omega arith) (at .loop .t .weights) (at .loop .t .rows) (at .loop .inv .2) (sym (c .before .before .enum-told .given .1) ∙ c .before .before .before .before .before .before .kind-of .ensures)
 
-add-i : tie.Need-add-i Inv-loop μ-loop
-add-i c = search needs
+element-write-t : tie.Need-element-write-t Inv-loop μ-loop
+element-write-t c =
+    let at = c .before .before .before .before .before .before .before .before .before .before in
+    let a = at .before .before .before .args in
+    let g = now (a .gates) in
+    let f = cnot-wires maxWires (a .n) (at .before .before .before .pre .0) g (readBytes (a .n) g) (at .loop .g) (omega arith) (at .loop .t .weights) (at .loop .t .rows) (at .loop .inv .2) (sym (c .before .before .before .enum-told .given .1) ∙ c .before .before .before .before .before .before .before .kind-of .ensures) in
+    omega (arith, f .0, f .1, c .before .before .index-of .ensures .0)
 
 loop-less : tie.Need-loop-less Inv-loop μ-loop
 loop-less c = search needs
 
 loop-again : tie.Need-loop-again Inv-loop μ-loop
 loop-again c =
-    let at = c .before .before .before .before .before in
+    let at = c .before .before .before .before .before .before .before .before .before .before in
     let a = at .before .before .before .args in
     let g = now (a .gates) in
-    let i = at .loop .i in
-    let t = readingOf (at .loop .t) in
-    let s = readingOf (c .read-gate .result) in
-    let e = c .read-gate .ensures in
-    let f = at .loop .inv .2 in (
-      search needs,
-      search needs,
-      formed-next (a .n) g i (omega arith) f,
-      sound-next (a .n) g i (omega arith) maxWires (at .before .before .before .pre .0) f t s e (at .loop .inv .3),
-      reads-next (a .n) g i (omega arith) t s e ∙ at .loop .inv .4,
-    )
+    (search needs, search needs, cnot-on maxWires (a .n) (at .before .before .before .pre .0) g (readBytes (a .n) g) (at .loop .g) (omega arith) (at .loop .t .weights) (at .loop .t .rows) (at .loop .inv .2) (sym (c .before .before .before .enum-told .given .1) ∙ c .before .before .before .before .before .before .before .kind-of .ensures) (c .before .before .index-of .result) (c .joined .result) (c .before .before .index-of .ensures .0) (c .joined .ensures))
+
+enum-known-said : tie.Need-enum-known-said Inv-loop μ-loop
+enum-known-said c = search needs
+
+held-requires : tie.Need-held-requires Inv-loop μ-loop
+held-requires c κs =
+    let at = c .before .before .before .before .before .before .before .before .before in
+    let a = at .before .before .before .args in
+    let g = now (a .gates) in
+    phase-wire maxWires (a .n) (at .before .before .before .pre .0) g (readBytes (a .n) g) (at .loop .g) (omega arith) (at .loop .t .weights) (at .loop .t .rows) (at .loop .inv .2) (c .before .before .said .given .0 .0) (sym (c .before .before .said .given .1) ∙ c .before .before .before .before .before .before .kind-of .ensures)
+
+element-copy-out-add-phase : tie.Need-element-copy-out-add-phase Inv-loop μ-loop
+element-copy-out-add-phase c = search needs
+
+add-phase-requires : tie.Need-add-phase-requires Inv-loop μ-loop
+add-phase-requires c κs =
+    let at = c .before .before .before .before .before .before .before .before .before .before .before in
+    let a = at .before .before .before .args in
+    let g = now (a .gates) in
+    (at .loop .inv .2 .1 .weights .small (c .before .held .result), phase-lt (getD g (3 * at .loop .g) 0) (c .before .before .before .before .said .given .0 .0) (sym (c .before .before .before .before .before .before .before .before .kind-of .ensures) ∙ c .before .before .before .before .said .given .1))
+
+element-write-t-2 : tie.Need-element-write-t-2 Inv-loop μ-loop
+element-write-t-2 c = search needs
+
+loop-less-2 : tie.Need-loop-less-2 Inv-loop μ-loop
+loop-less-2 c = search needs
+
+loop-again-2 : tie.Need-loop-again-2 Inv-loop μ-loop
+loop-again-2 c =
+    let at = c .before .before .before .before .before .before .before .before .before .before .before .before in
+    let a = at .before .before .before .args in
+    let g = now (a .gates) in
+    (search needs, search needs, phase-on maxWires (a .n) (at .before .before .before .pre .0) g (readBytes (a .n) g) (at .loop .g) (omega arith) (at .loop .t .weights) (at .loop .t .rows) (at .loop .inv .2) (c .before .before .before .before .before .said .given .0 .0) (sym (c .before .before .before .before .before .said .given .1) ∙ c .before .before .before .before .before .before .before .before .before .kind-of .ensures) (c .before .before .held .result) (c .add-phase .result) (c .before .before .held .ensures .0) (c .add-phase .ensures))
+
+enum-told-2 : tie.Need-enum-told-2 Inv-loop μ-loop
+enum-told-2 c = search needs
+
+loop-less-3 : tie.Need-loop-less-3 Inv-loop μ-loop
+loop-less-3 c = search needs
+
+loop-again-3 : tie.Need-loop-again-3 Inv-loop μ-loop
+loop-again-3 c =
+    let at = c .before .before .before .before .before .before .before in
+    let a = at .before .before .before .args in
+    let g = now (a .gates) in
+    (search needs, search needs, unknown-on maxWires (a .n) (at .before .before .before .pre .0) g (readBytes (a .n) g) (at .loop .g) (omega arith) (at .loop .t .weights) (at .loop .t .rows) (at .loop .inv .2) (sym (c .enum-told2 .given .1) ∙ c .before .before .before .before .kind-of .ensures))
 
 returns : tie.Need-returns Inv-loop μ-loop
 returns c =
     let at = c .before in
-    reads-end (now (at .before .before .before .args .gates)) (at .loop .i) (readingOf (at .loop .t)) (omega arith) ∙ at .loop .inv .4
+    reads-end (now (at .before .before .before .args .gates)) (at .loop .g) (readingOf (at .loop .t)) (omega arith) ∙ at .loop .inv .2 .2
 
 pub read-gates-spec : {M : Type 1} → statement M
-read-gates-spec =
-    tie.close
-    (tie.spec
-    Inv-loop
-    μ-loop
-    first-tables-requires
-    loop-holds
-    mul-read-gate
-    shared-slice-read-read-gate
-    mul-read-gate-2
-    add-read-gate
-    shared-slice-read-read-gate-2
-    mul-read-gate-3
-    add-read-gate-2
-    shared-slice-read-read-gate-3
-    read-gate-requires
-    add-i
-    loop-less
-    loop-again
-    returns)
+read-gates-spec = tie.close (tie.spec Inv-loop μ-loop first-tables-requires loop-holds mul-kind-of shared-slice-read-kind-of kind-of-requires mul-a add-a shared-slice-read-a mul-b add-b shared-slice-read-b add-g enum-told index-of-requires joined-requires element-write-t loop-less loop-again enum-known-said held-requires element-copy-out-add-phase add-phase-requires element-write-t-2 loop-less-2 loop-again-2 enum-told-2 loop-less-3 loop-again-3 returns)
