@@ -10,13 +10,11 @@ ghost use Rattle.moves.specs.Sets.{Ascending, In};
 ghost use Rattle.carry.specs.Decides.{AllMembers, Decides, MoveForm, Outside, ZeroFrom};
 use circuit::limits::MAX_MEMBERS;
 use circuit::limits::MOVE_BYTES;
+use circuit::limits::MOVE_HEAD;
 use circuit::limits::Parity;
+use circuit::parity::lowest;
 use columns::column;
-use columns::lowest;
 use columns::table::products;
-
-// What stands before Y in the bytes of a move: z and the number in Y.
-const HEAD: usize = MOVE_BYTES - MAX_MEMBERS;
 
 // Legality on all wires; for marks of fewer it is the same. Internal: the caller has found no fault in the marks.
 pub fn is_move(marks: &[u8], bytes: &[u8]) -> bool
@@ -34,8 +32,8 @@ pub fn set_of(bytes: &[u8]) -> &[u8]
     requires { ⌜ MoveForm maxMembers (now bytes) ⌝ }
     ensures { λ r. ⌜ now r ≡ setOf (now (bytes .entry)) ⌝ }
 {
-    let end = bytes[1] as usize + HEAD;
-    &bytes[HEAD..end]
+    let end = bytes[1] as usize + MOVE_HEAD;
+    &bytes[MOVE_HEAD..end]
 }
 
 // z, the number in Y, Y, zeros.
@@ -49,7 +47,7 @@ fn has_form(bytes: &[u8]) -> bool
     if count > MAX_MEMBERS {
         return false;
     }
-    zero_from(bytes, count + HEAD)
+    zero_from(bytes, count + MOVE_HEAD)
 }
 
 fn zero_from(bytes: &[u8], from: usize) -> bool

@@ -7,6 +7,7 @@ ghost use Rattle.circuit.specs.Entry.{ReadList};
 pub mod faults;
 pub mod gates;
 pub mod limits;
+pub mod parity;
 pub mod reading;
 
 use faults::first_fault;

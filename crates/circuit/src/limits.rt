@@ -22,8 +22,11 @@ pub const PRODUCT_BITS: usize = MAX_WIRES * (MAX_WIRES + 1) / 2;
 // The set Y of a move.
 pub const MAX_MEMBERS: usize = 38;
 
+// What stands before Y in the bytes of a move: z and the number in Y.
+pub const MOVE_HEAD: usize = 2;
+
 // z, the number in Y, and Y.
-pub const MOVE_BYTES: usize = MAX_MEMBERS + 2;
+pub const MOVE_BYTES: usize = MOVE_HEAD + MAX_MEMBERS;
 
 // Each move takes a member from the odd set, which never has parity 0.
 pub const MAX_MOVES: usize = WEIGHT_BYTES - 1;

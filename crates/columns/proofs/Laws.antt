@@ -1,13 +1,9 @@
 -- The laws of columns on one page: what the contracts of the crate's functions mean. The proofs are in the modules named.
 use mathlib.Core.List.{List}
-use mathlib.Core.Logic.{_≢_}
 use mathlib.Core.Path.{_≡_}
 use Prim.Native.Nat.{_<_, _^_, _≤_, ℕ}
-use lib.Count.{trailingZeros}
 use lib.ListN.{getD}
 use Rattle.circuit.specs.Limits.{maxWires, weightBytes}
-use Rattle.gf2.proofs.Leading.{lowest}
-use Rattle.gf2.specs.Bit.{bit}
 use Rattle.moves.specs.Kappa.{kappa}
 use Rattle.moves.specs.Product.{product}
 use Rattle.columns.proofs.Entries.{entry-is}
@@ -25,7 +21,3 @@ table-is-products products table p h = entry-is p (getD products p 0) (table .en
 -- `column`: that of n wires is the same
 pub column-on-fewer-wires : (n z t y : ℕ) → n ≤ maxWires → z < 2 ^ n → y < 2 ^ n → kappa maxWires z t y ≡ kappa n z t y
 column-on-fewer-wires n = kappa-wires n maxWires
-
--- `lowest`: a wire of z
-pub lowest-is-wire : (n z : ℕ) → n ≤ maxWires → z ≢ 0 → z < 2 ^ n → (trailingZeros maxWires z < n) × (bit z (trailingZeros maxWires z) ≡ 1)
-lowest-is-wire = lowest maxWires

@@ -2,7 +2,6 @@
 // triples of wires in a single xor. The finder and the check of a move share them. Internal: no entry for users.
 ghost use mathlib.Core.Path.{_≡_};
 ghost use Prim.Native.Nat.{_+_, _<_, _≤_, _^_};
-ghost use lib.Count.{trailingZeros};
 ghost use Rattle.circuit.specs.Limits.{maxWires, productBits};
 ghost use Rattle.moves.specs.Kappa.{kappa};
 ghost use Rattle.moves.specs.Product.{tri};
@@ -32,11 +31,4 @@ fn place(i: usize, j: usize) -> usize
     ensures { λ r. ⌜ (r ≡ tri j + i) × (r < productBits) ⌝ }
 {
     j * (j + 1) / 2 + i
-}
-
-// The lowest wire that z names, and MAX_WIRES where it names none.
-pub fn lowest(z: Parity) -> usize
-    ensures { λ r. ⌜ r ≡ trailingZeros maxWires z ⌝ }
-{
-    u8::trailing_zeros(z) as usize
 }

@@ -8,14 +8,11 @@ ghost use Rattle.moves.specs.Log.{asBytes};
 ghost use Rattle.moves.specs.Pair.{spelled};
 ghost use Rattle.kernel.specs.Spelling.{Few, SpelledMarks, listedBytes};
 use circuit::copy_into;
-use circuit::limits::MAX_MEMBERS;
 use circuit::limits::MOVE_BYTES;
+use circuit::limits::MOVE_HEAD;
 use circuit::limits::PRODUCT_BITS;
 use circuit::limits::Parity;
 use circuit::limits::WEIGHT_BYTES;
-
-// What stands before Y in the bytes of a move: z and the number in Y.
-const HEAD: usize = MOVE_BYTES - MAX_MEMBERS;
 
 // Writes the move of z with the set that the mask names and a.
 pub fn write_move(z: Parity, a: Parity, m: u64, member: &[Parity; PRODUCT_BITS], bytes: &mut [u8])
@@ -65,7 +62,7 @@ fn list(z: Parity, set: &[u8]) -> [u8; MOVE_BYTES]
         p += 1;
         if set[y] == 1 {
             let k = bytes[1] as usize;
-            bytes[k + HEAD] = y as Parity;
+            bytes[k + MOVE_HEAD] = y as Parity;
             bytes[1] = (k + 1) as u8;
         }
     }

@@ -3,7 +3,6 @@
 ghost use mathlib.Core.Path.{_≡_};
 ghost use Prim.Native.Nat.{_+_, _*_, _<_, _≤_, _-_, _^_};
 ghost use lib.ListN.{length};
-ghost use lib.Count.{trailingZeros};
 ghost use Rattle.gf2.specs.Over.{Below};
 ghost use Rattle.gf2.specs.Sum.{sum};
 ghost use Rattle.circuit.specs.Limits.{maxWires, pairBytes, weightBytes};
@@ -16,6 +15,7 @@ use circuit::limits::MAX_WIRES;
 use circuit::limits::PAIR_BYTES;
 use circuit::limits::Parity;
 use circuit::limits::WEIGHT_BYTES;
+use circuit::parity::lowest;
 
 // Internal: the caller has found no fault. From 2^n up the difference is 0, so that the sums go over the parities of n wires alone.
 pub fn put_new_weights(n: usize, w: &[u8], u: &[u8], out: &mut [u8])
@@ -143,13 +143,6 @@ fn rest_in(one: &[u8], q: &[u8], p: Parity) -> u32
         return pair_rest(q[MAX_WIRES * j + i]);
     }
     0
-}
-
-// The lowest wire of p; MAX_WIRES where there is none.
-fn lowest(p: Parity) -> usize
-    ensures { λ r. ⌜ (r ≡ trailingZeros maxWires p) × (r ≤ maxWires) ⌝ }
-{
-    u8::trailing_zeros(p) as usize
 }
 
 fn without(p: Parity, i: usize) -> Parity

@@ -35,7 +35,7 @@ column-requires : tie.Need-column-requires Inv-loop μ-loop
 column-requires c κs =
     let s = c .before .before .before .before .before .before .before in
     let l = c .before .before .before .before .lowest in
-    (c .before .before .before .before .before .products .ensures, wire-lt maxWires (s .args .z) (l .result) (l .ensures) (s .pre) (omega arith))
+    (c .before .before .before .before .before .products .ensures, wire-lt maxWires (s .args .z) (l .result) (l .ensures .0) (s .pre) (omega arith))
 
 add-i : tie.Need-add-i Inv-loop μ-loop
 add-i c = search needs
@@ -59,7 +59,7 @@ returns c =
     let ys = now (s .args .ys) in
     let l = c .before .before .lowest in
     let f = kappa maxWires (s .args .z) (l .result) in
-    balanced-by-xor maxWires (s .args .z) (l .result) (l .ensures) (s .pre) (omega arith) ys (at .sum)
+    balanced-by-xor maxWires (s .args .z) (l .result) (l .ensures .0) (s .pre) (omega arith) ys (at .sum)
     (λ i h. omega (arith, c .before .before .before .before .shared-slice-known .given i)) (xor-end f ys (at .i) (at .sum) (xorAll (map f ys)) (omega arith) (at .inv .1))
 
 pub is-balanced-spec : {M : Type 1} → statement M

@@ -2,9 +2,9 @@
 use mathlib.Core.Path.{refl}
 use lib.Count.{trailing-le}
 use borrow.Author.Needs.{needs}
 use Rattle.circuit.specs.Limits.{maxWires}
-use Rattle.weights.proofs.rests.lowest.Statement.{statement}
-use Rattle.weights.proofs.rests.lowest.Tie as tie
+use Rattle.circuit.proofs.parity.lowest.Statement.{statement}
+use Rattle.circuit.proofs.parity.lowest.Tie as tie
 
 cast-result : tie.Need-cast-result
 cast-result c = search (needs, trailing-le maxWires (c .args .p))
