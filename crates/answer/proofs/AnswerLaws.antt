@@ -2,8 +2,8 @@
 use mathlib.Core.Bool.{Bool, false, true}
 use mathlib.Core.List.{List, [], _∷_}
 use mathlib.Core.Logic.{inl, inr}
-use mathlib.Core.Path.{_∙_, _≡_, ap, refl, subst, sym}
-use Prim.Native.Nat.{_%_, _*_, _+_, _<_, _≤_, ℕ}
+use mathlib.Core.Path.{_∙_, _≡_, ap, subst, sym}
+use Prim.Native.Nat.{_+_, _<_, _≤_, ℕ}
 use native.Mathlib.Decide.{decLt}
 use native.Mathlib.Nat.{zero-add}
 use native.Mathlib.Omega.{arith}
@@ -21,7 +21,6 @@ use Rattle.circuit.specs.declared.gates.Kind.{Kind}
 use Rattle.circuit.specs.declared.gates.Kind.the-variants.{Cnot, Phase, Unknown}
 use Rattle.text.proofs.TextLaws.{first-bytes-decide}
 use Rattle.text.specs.Limits.{replyBytes, textBytes}
-use Rattle.text.specs.Placed.{Writes}
 use Rattle.text.specs.Text.{Sayable, Text, readText}
 use Rattle.answer.proofs.AnswerWays.{gates-in}
 use Rattle.answer.specs.Entry.{AnswerText, Outcome, Writes-printed}

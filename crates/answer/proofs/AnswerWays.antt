@@ -2,13 +2,13 @@
 use mathlib.Core.Bool.{Bool}
 use mathlib.Core.List.{List, [], _∷_}
 use mathlib.Core.Path.{_∙_, _≡_, ap, ap₂, refl, subst, sym}
-use Prim.Native.Nat.{_*_, _/_, _<_, _≤_, min, ℕ}
+use Prim.Native.Nat.{_*_, _/_, _<_, _≤_, ℕ}
 use native.Mathlib.Omega.{arith}
 use lib.ListN.{length, length-take, take}
 use borrow.Author.Tests.{le-ltb, lt-ltb}
 use Rattle.circuit.proofs.Judging.{list-well, or-well, short-well, wires-well}
 use Rattle.circuit.specs.Faults.{firstFault, lentOutput, listFault, refuse, shortFault, wiresFault}
-use Rattle.circuit.specs.Gate.{Gate, gatesOf}
+use Rattle.circuit.specs.Gate.{gatesOf}
 use Rattle.circuit.specs.Limits.{gateBytes, logBytes, maxListBytes, writeBytes}
 use Rattle.circuit.specs.declared.Reply.{Reply}
 use Rattle.circuit.specs.declared.Reply.the-variants as reply
@@ -26,8 +26,7 @@ use Rattle.trimmer.specs.declared.TrimReply.{TrimReply}
 use Rattle.trimmer.specs.declared.TrimReply.the-variants as trim
 use Rattle.answer.specs.Entry.{AnswerText, Writes-printed}
 use Rattle.answer.specs.Entry as entry
-use Rattle.answer.specs.Printed.{Prints, PrintsGates, trimLines}
-use Rattle.answer.specs.declared.Answered.{Answered}
+use Rattle.answer.specs.Printed.{PrintsGates, trimLines}
 use Rattle.answer.specs.declared.Answered.the-variants.{Done, Refused}
 
 -- a gate takes three bytes

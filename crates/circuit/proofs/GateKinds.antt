@@ -1,5 +1,5 @@
 -- The kind of a gate, by its byte: what the code's match tells, and that T and T dagger are the gates that add an odd phase.
-use mathlib.Core.Path.{_≡_, refl, _≡_}
+use mathlib.Core.Path.{_≡_, refl}
 use Prim.Native.Nat.{_%_, _-_, _<_, suc, zero, ℕ}
 use native.Mathlib.Omega.{arith}
 use Rattle.gf2.specs.Sum.{delta}

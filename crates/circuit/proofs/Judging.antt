@@ -2,8 +2,7 @@
 -- a fault that is found is the first of the list, and the only one that is first.
 use mathlib.Core.List.{List, [], _∷_}
 use mathlib.Core.Logic.{inl, inr, _≢_, _⊎_}
-use mathlib.Core.Option.{some}
-use mathlib.Core.Path.{_≡_, ap, refl, sym, _∙_, _≡_}
+use mathlib.Core.Path.{_≡_, ap, refl, sym, _∙_}
 use Prim.Native.Nat.{_%_, _+_, _<_, suc, zero, ℕ, _≤_}
 use native.Mathlib.Decide.{decLe, ℕ-discrete}
 use native.Mathlib.Nat.{add-zero}

@@ -1,7 +1,6 @@
 -- The laws of circuits on one page, for lists, replies and buffers as document 01 words them. The proofs are in the modules named.
 use mathlib.Core.List.{_++_, List, _∷_}
 use mathlib.Core.Logic.{_⊎_}
-use mathlib.Core.Option.{some}
 use mathlib.Core.Path.{ap, ap₂, subst, sym, _∙_, _≡_}
 use Prim.Native.Nat.{_+_, _<_, _^_, ℕ, _≤_}
 use native.Mathlib.Omega.{arith}
@@ -20,7 +19,6 @@ use Rattle.circuit.specs.Read.{Reading, read}
 use Rattle.circuit.specs.Run.{run}
 use Rattle.circuit.specs.Says.{says}
 use Rattle.circuit.specs.Sound.{SoundReading}
-use Rattle.circuit.specs.declared.Reply.{Reply}
 use Rattle.circuit.specs.declared.Reply.the-variants.{Done, Refused}
 
 -- ---- demand 2: nothing in the weights and rows read from a list differs from the list run gate by gate. For every n and N

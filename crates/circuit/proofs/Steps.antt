@@ -19,7 +19,6 @@ use Rattle.circuit.specs.Read.{Reading, firstRow, firstRows, readFrom, r
 use Rattle.circuit.specs.Sound.{SoundReading}
 use Rattle.circuit.specs.declared.gates.Kind.{Kind}
 use Rattle.circuit.specs.declared.gates.Kind.the-variants.{Cnot, Phase, Unknown}
-use Rattle.circuit.specs.declared.Reply.{Reply}
 use Rattle.circuit.specs.declared.Reply.the-variants.{Done, Refused}
 
 -- ---- the first fault

@@ -1,7 +1,6 @@
 -- Document 01, "Faults": which lists are accepted, and the first fault of one that is not. A fault's number is that of the table; 0 stands for none.
 use mathlib.Core.List.{List, [], _∷_}
 use mathlib.Core.Logic.{_≢_, _⊎_}
-use mathlib.Core.Option.{some}
 use mathlib.Core.Path.{_≡_}
 use Prim.Native.Nat.{_%_, _<_, suc, zero, ℕ, _≤_}
 use lib.Dec.{eqb, leb}

@@ -1,6 +1,6 @@
 // What a gate's kind byte says (document 01, "Gates and what they do"). Every other function asks here.
 ghost use mathlib.Core.Path.{_≡_};
-ghost use Prim.Native.Nat.{_≤_, _<_};
+ghost use Prim.Native.Nat.{_≤_};
 ghost use Rattle.circuit.specs.Gate.{kindOf};
 
 // A CNOT; a phase gate, with what it adds in eighths of a turn; or no gate.

@@ -4,7 +4,7 @@ ghost use Prim.Native.Nat.{_+_, _%_, _<_, _≤_};
 ghost use lib.Bits.{bitXor};
 ghost use lib.ListN.{getD};
 ghost use Rattle.circuit.specs.Limits.{maxWires, weightBytes};
-ghost use Rattle.circuit.specs.Gate.{gate, gatesOf};
+ghost use Rattle.circuit.specs.Gate.{gatesOf};
 ghost use Rattle.circuit.specs.Read.{start, firstRow};
 ghost use Rattle.circuit.specs.Faults.{AllWellFormed};
 ghost use Rattle.circuit.specs.Entry.{readingOf, readBytes};

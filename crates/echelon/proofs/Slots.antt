@@ -2,7 +2,7 @@
 use mathlib.Core.List.{List}
 use mathlib.Core.Logic.{_≢_}
 use mathlib.Core.Path.{_≡_, subst, sym}
-use Prim.Native.Nat.{_%_, _*_, _+_, _-_, _<_, _^_, _≤_, suc, ℕ}
+use Prim.Native.Nat.{_%_, _*_, _-_, _<_, _^_, _≤_, suc, ℕ}
 use native.Mathlib.Decide.{decLt}
 use native.Mathlib.Omega.{arith}
 use lib.Bits.{bitXor}

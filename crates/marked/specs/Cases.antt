@@ -12,8 +12,7 @@ use Rattle.circuit.specs.Sound.{SoundRows}
 use Rattle.moves.specs.CarryOut.{carryOut}
 use Rattle.moves.specs.Move.{Legal}
 use Rattle.phase.specs.Coefficients.{c, l, q}
-use Rattle.circuit.specs.declared.Reply.{Reply}
-use Rattle.circuit.specs.declared.Reply.the-variants.{Done, Refused}
+use Rattle.circuit.specs.declared.Reply.the-variants.{Refused}
 
 -- weight w at parity p
 pub data Entry : Type 0 where

@@ -1,6 +1,6 @@
 -- Weights as lists: sums over a list are sums over the 2 ^ n parities; a list made by `pad`; and sums over weights that are added modulo 8.
 use mathlib.Core.List.{_++_, List}
-use mathlib.Core.Path.{_≡_, ap, refl, sym, _∙_, _≡_}
+use mathlib.Core.Path.{_≡_, ap, refl, sym, _∙_}
 use Prim.Native.Nat.{_%_, _*_, _+_, _-_, _<_, _^_, suc, zero, ℕ, _≤_}
 use native.Mathlib.Decide.{decLt}
 use native.Mathlib.Omega.{arith}

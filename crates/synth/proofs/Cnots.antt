@@ -1,8 +1,8 @@
 -- CNOTs into one wire from the wires of a mask: what reading them does, how many they are, that they are well formed, and that no phase is added.
 use mathlib.Core.List.{List, []}
 use mathlib.Core.Logic.{_≢_}
-use mathlib.Core.Path.{_≡_, ap, ap₂, refl, sym, _∙_, _≡_}
-use Prim.Native.Nat.{_%_, _*_, _+_, _<_, _^_, _+_, suc, zero, ℕ, _≤_}
+use mathlib.Core.Path.{_≡_, ap, ap₂, refl, sym, _∙_}
+use Prim.Native.Nat.{_%_, _*_, _+_, _<_, _^_, suc, zero, ℕ, _≤_}
 use native.Mathlib.Nat.{mod-eq-of-lt, one-mul, zero-mul}
 use native.Mathlib.Omega.{arith}
 use lib.Bits.{bitXor, xor-zero-r}

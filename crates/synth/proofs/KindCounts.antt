@@ -1,6 +1,6 @@
 -- Gates counted by kind. In an accepted list each phase gate adds at one parity below 2^n, so the gates of a kind are those at each parity, summed.
 use mathlib.Core.List.{_++_, List, [], _∷_}
-use mathlib.Core.Path.{_≡_, ap, refl, sym, _∙_, _≡_}
+use mathlib.Core.Path.{_≡_, ap, refl, sym, _∙_}
 use Prim.Native.Nat.{_+_, _<_, _^_, ℕ, _≤_}
 use native.Mathlib.Omega.{arith}
 use lib.Dec.{eqb}

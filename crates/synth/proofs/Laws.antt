@@ -1,7 +1,7 @@
 -- The laws of writing on one page, for lists, replies and buffers as document 01 words them. The proofs are in the modules named.
 use mathlib.Core.List.{List}
 use mathlib.Core.Logic.{_↔_, _≢_}
-use mathlib.Core.Path.{_≡_, ap, refl, _∙_, _≡_}
+use mathlib.Core.Path.{_≡_, ap, refl, _∙_}
 use Prim.Native.Nat.{_*_, _<_, _^_, suc, zero, ℕ, _≤_}
 use native.Mathlib.Omega.{arith}
 use lib.ListN.{length, take}

@@ -17,8 +17,7 @@ use Rattle.gf2.specs.Sum.{delta}
 use Rattle.gf2.specs.Table.{addAt}
 use Rattle.synth.specs.Spelling.{T, T-dagger, kindsAt, occurs, spelling}
 use Rattle.synth.specs.Writing.{spell}
-use Rattle.circuit.specs.declared.gates.Kind.{Kind}
-use Rattle.circuit.specs.declared.gates.Kind.the-variants.{Cnot, Phase, Unknown}
+use Rattle.circuit.specs.declared.gates.Kind.the-variants.{Phase}
 
 -- all of these are kinds of phase gates
 abbrev Phases : List ℕ → Type 0

@@ -1,7 +1,7 @@
 -- What is written for sound weights and rows: it reads back exactly, spells each weight, and has at most n * 2^n + n * n gates. Over n and N.
 use mathlib.Core.List.{List, append-nil}
 use mathlib.Core.Path.{ap, ap₂, refl, sym, _∙_, _≡_}
-use Prim.Native.Nat.{_+_, _^_, _+_, ℕ, _≤_}
+use Prim.Native.Nat.{_+_, _^_, ℕ, _≤_}
 use native.Mathlib.Nat.{le-refl}
 use native.Mathlib.Omega.{arith}
 use lib.ListN.{getD, length, length-append}
@@ -26,7 +26,6 @@ use Rattle.synth.proofs.Spelled.{occurs-odd}
 use Rattle.synth.specs.Entry.{Wrote}
 use Rattle.synth.specs.Spelling.{T, T-dagger, gatesOfKind, kindsAt, occurs, spelledGates, spelling}
 use Rattle.synth.specs.Writing.{writeList, writePhases, writeRows}
-use Rattle.circuit.specs.declared.gates.Kind.{Kind}
 use Rattle.circuit.specs.declared.gates.Kind.the-variants.{Phase}
 
 module _ (N n : ℕ) (fit : n ≤ N) (w rows : List ℕ) (sw : SoundWeights (2 ^ N) n w) (sr : SoundRows N n rows) where

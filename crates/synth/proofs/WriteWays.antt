@@ -3,12 +3,10 @@ use mathlib.Core.List.{_++_, List}
 use mathlib.Core.Logic.{_≢_}
 use mathlib.Core.Path.{ap, refl, subst, sym, _∙_, _≡_}
 use Prim.Native.Nat.{_*_, _^_, suc, zero, ℕ, _≤_}
-use native.Mathlib.Decide.{decLe}
 use native.Mathlib.Nat.{mul-le-mul}
 use native.Mathlib.Omega.{arith}
 use lib.ListN.{length, take}
 use lib.Pow.{pow-mono}
-use borrow.Author.Tests.{le-leb, lt-leb}
 use Rattle.circuit.proofs.Judging.{or-pass, or-well, short-pass, short-well}
 use Rattle.circuit.specs.Faults.{Accepted, orElse, shortFault}
 use Rattle.circuit.specs.Gate.{Gate, bytesOf, gatesOf}
@@ -25,7 +23,6 @@ use Rattle.synth.specs.Entry.{WriteList, Wrote, frontGates, writeReply}
 use Rattle.synth.specs.Faults.{Writable, rowsFault, writeFault}
 use Rattle.synth.specs.Storing.{Room, Stored}
 use Rattle.synth.specs.Writing.{writeList, writePhases, writeRows}
-use Rattle.synth.specs.declared.Written.{Written}
 use Rattle.synth.specs.declared.Written.the-variants.{Done, Refused}
 
 -- a written list for n wires is no longer than the longest

@@ -1,6 +1,5 @@
 // Writing a list of gates from weights and rows (document 01, "The new weights").
 // Public entry: `write`. Its promise is the record WriteList of specs/Entry; proofs/Laws says what the promise means.
-ghost use mathlib.Core.Path.{_≡_};
 ghost use Rattle.synth.specs.Entry.{WriteList};
 
 pub mod faults;

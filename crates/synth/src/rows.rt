@@ -1,11 +1,9 @@
 // Writing the rows. Internal: the caller has found no fault.
-ghost use mathlib.Core.Path.{_≡_};
 ghost use Prim.Native.Nat.{_≤_};
-ghost use lib.ListN.{length};
-ghost use Rattle.circuit.specs.Limits.{maxWires, rowBytes};
+ghost use Rattle.circuit.specs.Limits.{maxWires};
 ghost use Rattle.circuit.specs.Sound.{SoundRows};
 ghost use Rattle.synth.specs.Storing.{Room, Stored};
-ghost use Rattle.synth.specs.Writing.{writeRows, rowGates};
+ghost use Rattle.synth.specs.Writing.{writeRows};
 use crate::masks::pivot_of;
 use crate::masks::row_step;
 use crate::storing::gather;

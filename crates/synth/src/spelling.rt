@@ -1,6 +1,5 @@
 // How a weight is spelled (document 01, "The new weights"). Internal: the caller has found no fault.
 ghost use mathlib.Core.List.{[], _∷_};
-ghost use mathlib.Core.Path.{_≡_};
 ghost use Prim.Native.Nat.{_<_};
 ghost use Rattle.circuit.specs.Gate.{gate};
 ghost use Rattle.synth.specs.Storing.{Room, Stored};

@@ -1,8 +1,7 @@
 // Gates stored in lent bytes, one after the other. Each function is told how many gates stand there, and gives how many stand there then.
 // Internal: the caller has found no fault.
 ghost use mathlib.Core.List.{[], _∷_};
-ghost use mathlib.Core.Path.{_≡_};
-ghost use Prim.Native.Nat.{_<_, _≤_};
+ghost use Prim.Native.Nat.{_≤_};
 ghost use Rattle.circuit.specs.Gate.{gate};
 ghost use Rattle.circuit.specs.Limits.{maxWires};
 ghost use Rattle.synth.specs.Storing.{Room, Stored};

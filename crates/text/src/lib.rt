@@ -1,6 +1,5 @@
 // The text form of circuits (document 01, "Text form"): a text read into gates, and the lines that the program writes.
 // Public entry: `read_text`. Its promise is the record ReadText of specs/Entry; proofs/TextLaws says what the promise means.
-ghost use mathlib.Core.Path.{_≡_};
 ghost use Rattle.text.specs.Entry.{ReadText};
 
 pub mod hex;

@@ -5,7 +5,7 @@ ghost use Prim.Native.Nat.{_+_, _*_, _/_, _<_, _≤_};
 ghost use lib.ListN.{length};
 ghost use Rattle.circuit.specs.Gate.{gate, gatesOf};
 ghost use Rattle.circuit.specs.Limits.{gateBytes};
-ghost use Rattle.text.specs.Hex.{hex2, hex4};
+ghost use Rattle.text.specs.Hex.{hex2};
 ghost use Rattle.text.specs.Limits.{countsLineBytes, gateLineBytes, refusedLineBytes, wiresLineBytes};
 ghost use Rattle.text.specs.Placed.{Writes};
 ghost use Rattle.text.specs.Written.{countsLine, gateLine, gateLines, number, refusedLine, wiresLine};

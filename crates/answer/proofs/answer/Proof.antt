@@ -1,7 +1,6 @@
 -- Too little room, and room enough.
 use native.Mathlib.Omega.{arith}
 use borrow.Author.Needs.{needs}
-use borrow.Author.Tests.{ltb-false, ltb-true}
 use denote.Ref.{now}
 use Rattle.answer.proofs.AnswerWays.{answered, too-little-room}
 use Rattle.answer.proofs.answer.Statement.{statement}

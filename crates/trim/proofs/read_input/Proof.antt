@@ -1,7 +1,6 @@
 -- What has been read stays within the buffer, and each turn reads some more.
 use Prim.Native.Nat.{_-_, _≤_}
 use mathlib.Core.Path.{_≡_}
-use native.Mathlib.Omega.{arith}
 use lib.ListN.{length}
 use borrow.Author.Needs.{needs}
 use Rattle.trim.proofs.Reading.{front, within}

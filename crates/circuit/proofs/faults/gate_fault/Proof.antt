@@ -3,7 +3,6 @@ use mathlib.Core.Path.{refl, sym, _∙_}
 use borrow.Author.Needs.{needs}
 use Rattle.circuit.proofs.Judging.{by-kind}
 use Rattle.circuit.specs.Faults.{gateKind}
-use Rattle.circuit.specs.declared.gates.Kind.{Kind}
 use Rattle.circuit.specs.declared.gates.Kind.the-variants.{Cnot, Phase, Unknown}
 use Rattle.circuit.proofs.faults.gate_fault.Statement.{statement}
 use Rattle.circuit.proofs.faults.gate_fault.Tie as tie

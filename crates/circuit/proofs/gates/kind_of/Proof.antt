@@ -4,8 +4,6 @@ use native.Mathlib.Omega.{arith}
 use borrow.Author.Needs.{needs}
 use Rattle.circuit.proofs.GateKinds.{kind-above}
 use Rattle.circuit.specs.Gate.{kindOf}
-use Rattle.circuit.specs.declared.gates.Kind.{Kind}
-use Rattle.circuit.specs.declared.gates.Kind.the-variants.{Cnot, Phase, Unknown}
 use Rattle.circuit.proofs.gates.kind_of.Statement.{statement}
 use Rattle.circuit.proofs.gates.kind_of.Tie as tie
 
