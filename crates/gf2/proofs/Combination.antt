@@ -9,7 +9,7 @@ use lib.Bits.{bitXor, xor-self, xor-zero-l, xor-zero-r}
 use lib.ListN.{getD, length, replicate, set}
 use lib.Pow.{field, mod-mod-pow}
 use Rattle.gf2.proofs.Bit.{bit-of-zero, bit-scale, bit-xor}
-use Rattle.gf2.proofs.Selection.{combine-none, combine-one, combine-scale, combine-set, combine-xor}
+use Rattle.gf2.proofs.Selection.{combine-none, combine-scale, combine-set, combine-xor}
 use Rattle.gf2.proofs.Xor.{xor-assoc}
 use Rattle.gf2.specs.Bit.{bit}
 use Rattle.gf2.specs.Echelon.{Span}
@@ -86,9 +86,6 @@ getD-zeros (suc k) (suc i) = getD-zeros k i
 
 pub span-zero : (ys : List ℕ) → Span ys 0
 span-zero ys = (0, combine-none ys)
-
-pub span-one : (s : ℕ) (ys : List ℕ) → Span ys (getD ys s 0)
-span-one s ys = (2 ^ s, combine-one s ys)
 
 pub span-xor : (ys : List ℕ) (x y : ℕ) → Span ys x → Span ys y → Span ys (bitXor x y)
 span-xor ys x y p q = (bitXor (p .0) (q .0), combine-xor (p .0) (q .0) ys ∙ ap₂ bitXor (p .1) (q .1))

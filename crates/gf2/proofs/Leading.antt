@@ -3,12 +3,12 @@ use mathlib.Core.Logic.{_≢_}
 use mathlib.Core.Path.{_∙_, _≡_, ap, ap₂, refl, sym}
 use Prim.Native.Nat.{_%_, _*_, _+_, _-_, _/_, _<_, _^_, _≤_, suc, zero, ℕ}
 use native.Mathlib.Decide.{decLt}
-use native.Mathlib.Nat.{div-eq-of-lt, lt-of-lt-of-le, mod-lt, zero-mul}
+use native.Mathlib.Nat.{lt-of-lt-of-le, zero-mul}
 use native.Mathlib.Omega.{arith}
 use lib.Arith.{digits-div}
 use lib.Bits.{bitXor, xor-block, xor-lt}
 use lib.Count.{trailingZeros, under}
-use lib.Pow.{pow-mono, pow-pos, split}
+use lib.Pow.{pow-mono}
 use Rattle.gf2.proofs.Bit.{bit-high, bit-suc, bit-xor, bit-zero}
 use Rattle.gf2.specs.Bit.{bit}
 
@@ -19,17 +19,6 @@ bit-top k a l h = ap (λ (n : ℕ). n % 2) (ap (λ (n : ℕ). n / 2 ^ k) apart �
   where
     apart : a ≡ 1 * 2 ^ k + (a - 2 ^ k)
     apart = omega arith
-
--- the machine's test for it: x shifted right by s
-pub shr-none : (x s : ℕ) → x / 2 ^ s ≡ 0 → x < 2 ^ s
-shr-none x s e = omega (arith, split x s, mod-lt x {m = 2 ^ s} (pow-pos s), ap (λ (n : ℕ). n * 2 ^ s) e)
-
-pub shr-some : (x s : ℕ) → x / 2 ^ s ≢ 0 → 2 ^ s ≤ x
-shr-some x s n = go (decLt x (2 ^ s))
-  where
-    go : Dec (x < 2 ^ s) → 2 ^ s ≤ x
-    go (yes l) = absurd (n (div-eq-of-lt l))
-    go (no d) = omega arith
 
 -- two numbers with the same top bit: it goes
 pub xor-top : (k a b : ℕ) → 2 ^ k ≤ a → a < 2 ^ suc k → 2 ^ k ≤ b → b < 2 ^ suc k → bitXor a b < 2 ^ k

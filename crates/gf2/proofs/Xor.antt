@@ -11,9 +11,6 @@ xor-assoc a b c = bit-eq _ _ (λ i. simp bit-xor (omega arith))
 pub xor-cancel : (a b : ℕ) → bitXor (bitXor a b) b ≡ a
 xor-cancel a b = rw (xor-assoc, xor-self, xor-zero-r)
 
-pub xor-left-comm : (a b c : ℕ) → bitXor a (bitXor b c) ≡ bitXor b (bitXor a c)
-xor-left-comm a b c = sym (xor-assoc a b c) ∙ ap (λ (x : ℕ). bitXor x c) (xor-comm a b) ∙ xor-assoc b a c
-
 pub xor-right-comm : (a b c : ℕ) → bitXor (bitXor a b) c ≡ bitXor (bitXor a c) b
 xor-right-comm a b c = xor-assoc a b c ∙ ap (bitXor a) (xor-comm b c) ∙ sym (xor-assoc a c b)
 

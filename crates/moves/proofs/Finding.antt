@@ -7,10 +7,10 @@ use native.Mathlib.Decide.{ℕ-discrete}
 use native.Mathlib.Nat.{le-refl}
 use native.Mathlib.Omega.{arith}
 use lib.Bits.{bitXor, xor-self}
-use lib.ListN.{getD, length, length-map, replicate}
+use lib.ListN.{getD, length, length-map}
 use lib.Seq.{getD-set-other, getD-set-same}
 use Rattle.circuit.specs.Sound.{SoundMarks}
-use Rattle.gf2.proofs.Basis.{basis-more, basis-names, basis-none, basis-none-gives, basis-same, basis-spells, members-long}
+use Rattle.gf2.proofs.Basis.{basis-more, basis-names, basis-none-gives, basis-same, basis-spells, members-long}
 use Rattle.gf2.proofs.Bit.{bit-of-zero}
 use Rattle.gf2.proofs.Combination.{combine-whole}
 use Rattle.gf2.proofs.Over.{xorAll-more}
@@ -38,9 +38,6 @@ other-wider j k marks a b h y o = record { below = omega (arith, o .below); memb
 -- ---- the members other than a and b go in, one parity after another
 
 module _ (N : ℕ) (κ : ℕ → ℕ) (marks : List ℕ) (a b : ℕ) where
-  pub others-none : Basis N (Other 0 marks a b) κ (replicate N 0) (replicate N 0) (replicate N 0)
-  others-none = basis-none N κ (Other 0 marks a b) (λ y o. omega (arith, o .below))
-
   module _ (k : ℕ) (vec mask member : List ℕ) (h : Basis N (Other k marks a b) κ vec mask member) where
     -- parity k is no member, or is a or b
     pub others-skip : (Member marks k → k ≢ a → k ≢ b → ⊥) → Basis N (Other (k + 1) marks a b) κ vec mask member

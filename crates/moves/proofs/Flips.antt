@@ -1,6 +1,5 @@
 -- Flipped marks: mark 0 is cleared; one turn of the loop that carries out a move; marks stay 0 or 1, and as many.
 use mathlib.Core.List.{List, [], _∷_}
-use mathlib.Core.Logic.{_≢_}
 use mathlib.Core.Path.{_∙_, _≡_, ap, refl, sym}
 use Prim.Native.Nat.{_%_, _+_, _<_, suc, zero, ℕ}
 use native.Mathlib.Numerals.{add-one}
@@ -31,15 +30,6 @@ pairs-next w w₁ w₂ R z Y i l e₁ e₂ h = rw (e₂, e₁, add-one i) (ap (�
 pub pairs-end : (w R : List ℕ) (z : ℕ) (Y : List ℕ) (i : ℕ) → i ≡ length Y → flipPairs w z (drop i Y) ≡ R → w ≡ R
 unfolding flipPairs
 pairs-end w R z Y i e h = ap (λ (q : List ℕ). flipPairs w z q) (sym (ap (λ (j : ℕ). drop j Y) e ∙ drop-length Y)) ∙ h
-
--- the rest of carrying out, for an odd and for an even Y
-pub carry-odd : (marks w w₁ : List ℕ) (z : ℕ) (Y : List ℕ) → w ≡ flipPairs marks z Y → length Y % 2 ≡ 1 → w₁ ≡ flip w z → set w₁ 0 0 ≡ carryOut marks z Y
-unfolding carryOut flipIf
-carry-odd marks w w₁ z Y e h e₁ = rw (e₁, e, h)
-
-pub carry-even : (marks w : List ℕ) (z : ℕ) (Y : List ℕ) → w ≡ flipPairs marks z Y → length Y % 2 ≢ 1 → set w 0 0 ≡ carryOut marks z Y
-unfolding carryOut flipIf
-carry-even marks w z Y e h = let q : length Y % 2 ≡ 0 = omega arith in rw (e, q)
 
 -- ---- marks stay 0 or 1, and stay as many
 

@@ -54,11 +54,7 @@ toggled-few w q l =
     )
 
 module _ (size : ℕ) (member : List ℕ) (m : ℕ) where
-  -- for a loop over the slots: no slot yet, a slot that m names, and one that it does not
-  pub spell-none : spell size member m 0 ≡ replicate size 0
-  unfolding spell
-  spell-none = refl
-
+  -- for a loop over the slots: a slot that m names, and one that it does not
   pub spell-on : (k : ℕ) → bit m k ≡ 1 → spell size member m (k + 1) ≡ flip (spell size member m k) (getD member k 0)
   unfolding spell flipIf
   spell-on k e = rw (add-one k) (ap (λ (b : ℕ). flipIf b (spell size member m k) (getD member k 0)) e)
