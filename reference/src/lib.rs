@@ -15,7 +15,7 @@
 //! - [`demands`]: what must hold of any answer, whatever made it.
 //! - [`entries`]: the proved library's C functions. [`program`]: the proved program, run as a process.
 //! - [`lent`], [`comparison`]: lent buffers with guards around them; one call, held against the reference.
-//! - [`random`]: the generator and the random circuits, weights, odd sets and rows.
+//! - [`random`]: the generator and the random circuits, weights, odd sets and rows. [`texts`]: texts to try.
 //! - [`fast`], [`published`]: for the benchmark, a trimmer built for speed and the published search taken literally. The
 //!   first does share an idea with the proved code, so comparisons with the library take inputs from it at most.
 //!
@@ -45,5 +45,6 @@ pub mod random;
 pub mod reading;
 pub mod running;
 pub mod text;
+pub mod texts;
 pub mod trimming;
 pub mod writing;

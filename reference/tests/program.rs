@@ -11,6 +11,7 @@ use sulmedra_reference::program::{run, run_on_file, run_on_pieces, run_without_e
 use sulmedra_reference::random::{circuit, marks, rows, weights, Random};
 use sulmedra_reference::reading::read;
 use sulmedra_reference::text::write;
+use sulmedra_reference::texts::{crossed_out, damage, noise, Told, MALFORMED, NO_WIRE_COUNTS, ONE_LINE_MORE};
 use sulmedra_reference::trimming::Counts;
 use sulmedra_reference::{fast, writing};
 
@@ -29,21 +30,9 @@ fn refused(number: u64, place: u64) -> Result<Printed, Fault> {
     Err(Fault { number, place })
 }
 
-/// How often each answer came up: accepted at 0, the faults at their numbers.
-#[derive(Default)]
-struct Told([usize; 11]);
-
-impl Told {
-    fn note(&mut self, said: &Result<Printed, Fault>) {
-        let number = said.as_ref().map_or_else(|fault| fault.number, |_| 0);
-        self.0[number as usize] += 1;
-    }
-
-    fn all_came_up(&self, numbers: &[usize]) {
-        for number in numbers {
-            assert!(self.0[*number] > 0, "answer {number} never came up: {:?}", self.0);
-        }
-    }
+/// The number of the fault, 0 for none.
+fn number_of(said: &Result<Printed, Fault>) -> u64 {
+    said.as_ref().map_or_else(|fault| fault.number, |_| 0)
 }
 
 #[test]
@@ -159,7 +148,7 @@ fn texts_of_one_line() {
         let due = Printed { n, gates: Vec::new(), counts };
         assert_eq!(both(format!("{n:02x}\n").as_bytes(), &mut random), Ok(due));
     }
-    for n in [0, 9, 10, 16, 17, 128, 255] {
+    for n in NO_WIRE_COUNTS {
         assert_eq!(both(format!("{n:02x}\n").as_bytes(), &mut random), refused(1, 0), "n = {n}");
         assert_eq!(both(format!("{n:02x}\nzz\n").as_bytes(), &mut random), refused(1, 0), "n = {n}");
         assert_eq!(both(format!("{n:02x}").as_bytes(), &mut random), refused(9, 1), "n = {n} without newline");
@@ -169,31 +158,7 @@ fn texts_of_one_line() {
 #[test]
 fn malformed_lines() {
     let mut random = Random::new(308);
-    for (text, line) in [
-        (&b""[..], 1),
-        (b"\n", 1),
-        (b"0", 1),
-        (b"01", 1),
-        (b"1\n", 1),
-        (b"001\n", 1),
-        (b"0A\n", 1),
-        (b" 1\n", 1),
-        (b"01\r\n020000\r\n", 1),
-        (b"\xef\xbb\xbf01\n", 1),
-        (b"01\0\n", 1),
-        (b"01 020000\n", 1),
-        (b"01\n\n", 2),
-        (b"01\n020000", 2),
-        (b"01\n02000\n", 2),
-        (b"01\n0200000\n", 2),
-        (b"03\n02000A\n", 2),
-        (b"01\n02 00 00\n", 2),
-        (b"01\n020000\r\n", 2),
-        (b"01\n020000\n\n", 3),
-        (b"01\n020000\n\n020000\n", 3),
-        (b"01\n020000\n020000", 3),
-        (b"01\n020000\n0", 3),
-    ] {
+    for (text, line) in MALFORMED {
         assert_eq!(both(text, &mut random), refused(9, line), "{:?}", shown(text));
     }
 }
@@ -241,21 +206,9 @@ fn gates_with_any_bytes() {
             let place = random.below(gates.len());
             gates[place] = random.below(10) as u8;
         }
-        told.note(&answer(&write(n, &gates), &mut random).said);
+        told.note(number_of(&answer(&write(n, &gates), &mut random).said));
     }
     told.all_came_up(&[0, 3, 4, 5]);
-}
-
-/// A text with a byte changed, dropped or doubled.
-fn damage(text: &mut Vec<u8>, random: &mut Random) {
-    let place = random.below(text.len());
-    let noise = random.byte();
-    let byte = random.one_of(&[b'\n', b'0', b'1', b'9', b'a', b'f', b'g', b'A', b' ', b'\r', b'/', b':', b'`', noise]);
-    match random.below(3) {
-        0 => text[place] = byte,
-        1 => text.insert(place, text[place]),
-        _ => drop(text.remove(place)),
-    }
 }
 
 #[test]
@@ -268,9 +221,9 @@ fn damaged_texts() {
         let mut text = write(n, &circuit(&mut random, n, length));
         damage(&mut text, &mut random);
         if round % 20 == 0 {
-            told.note(&both(&text, &mut random));
+            told.note(number_of(&both(&text, &mut random)));
         } else {
-            told.note(&answer(&text, &mut random).said);
+            told.note(number_of(&answer(&text, &mut random).said));
         }
     }
     told.all_came_up(&[0, 1, 3, 4, 5, 9]);
@@ -281,11 +234,8 @@ fn damage_in_long_texts() {
     let mut random = Random::new(312);
     let whole = write(8, &circuit(&mut random, 8, MOST_GATES));
     for _ in 0..40 {
-        let mut text = whole.clone();
-        let place = random.below(text.len());
-        text[place] = b'x';
-        let line = whole[..place].iter().filter(|byte| **byte == b'\n').count() as u64 + 1;
-        assert_eq!(both(&text, &mut random), refused(9, line), "byte {place}");
+        let (text, line) = crossed_out(&whole, &mut random);
+        assert_eq!(both(&text, &mut random), refused(9, line));
     }
 }
 
@@ -295,17 +245,11 @@ fn texts_of_noise() {
     let mut random = Random::new(313);
     let mut told = Told::default();
     for round in 0..4000 {
-        let length = random.between(0, 60);
-        let noise = random.bytes(length);
-        let text: Vec<u8> = match round % 3 {
-            0 => noise,
-            1 => noise.iter().map(|byte| b"0123456789abcdef\n\n"[usize::from(*byte) % 18]).collect(),
-            _ => [b"0", &[b"0123456789"[random.below(10)]][..], b"\n", &noise].concat(),
-        };
+        let text = noise(round, 60, &mut random);
         if round % 20 < 3 {
-            told.note(&both(&text, &mut random));
+            told.note(number_of(&both(&text, &mut random)));
         } else {
-            told.note(&answer(&text, &mut random).said);
+            told.note(number_of(&answer(&text, &mut random).said));
         }
     }
     told.all_came_up(&[1, 9]);
@@ -324,7 +268,7 @@ fn texts_around_the_most_gates() {
         assert!(both(&most, &mut random).is_ok(), "4,096 gate lines");
         assert_eq!(both(&most[..most.len() - 1], &mut random), refused(9, 4097), "line 4,097 has no newline");
         assert_eq!(both(&most[..most.len() - 7], &mut random).map(|_| ()), Ok(()), "4,095 gate lines");
-        for line in ["020000\n", "\n", "z", "0", "020000", "zzzzzz\n", "02000\n", "020000\n020000\n", "\n\n\n"] {
+        for line in ONE_LINE_MORE {
             let text = [&most[..], line.as_bytes()].concat();
             assert_eq!(both(&text, &mut random), refused(2, 0), "gate line 4,097 is {line:?}");
         }

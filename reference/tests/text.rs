@@ -5,6 +5,7 @@ use sulmedra_reference::entries::Reply;
 use sulmedra_reference::gates::MOST_GATES;
 use sulmedra_reference::random::{circuit, Random};
 use sulmedra_reference::text::{write, Parsed};
+use sulmedra_reference::texts::{crossed_out, damage, noise, Told, MALFORMED, NO_WIRE_COUNTS, ONE_LINE_MORE};
 
 /// Reads a text into outputs of the least length.
 fn read(text: &[u8], random: &mut Random) -> Result<Parsed, Reply> {
@@ -15,21 +16,9 @@ fn refused(number: u64, place: u64) -> Result<Parsed, Reply> {
     Err(Reply { number, place })
 }
 
-/// How often each answer came up: accepted at 0, the faults at their numbers.
-#[derive(Default)]
-struct Told([usize; 11]);
-
-impl Told {
-    fn note(&mut self, text: &[u8], random: &mut Random) {
-        let number = read(text, random).map_or_else(|reply| reply.number, |_| 0);
-        self.0[number as usize] += 1;
-    }
-
-    fn all_came_up(&self, numbers: &[usize]) {
-        for number in numbers {
-            assert!(self.0[*number] > 0, "answer {number} never came up: {:?}", self.0);
-        }
-    }
+/// The number of the fault, 0 for none.
+fn number_of(said: Result<Parsed, Reply>) -> u64 {
+    said.map_or_else(|reply| reply.number, |_| 0)
 }
 
 #[test]
@@ -76,10 +65,10 @@ fn every_line_one() {
     let mut told = Told::default();
     for first in 0..=255 {
         for second in (0..=255).step_by(if first == b'0' { 1 } else { 7 }) {
-            told.note(&[first, second, b'\n'], &mut random);
+            told.note(number_of(read(&[first, second, b'\n'], &mut random)));
         }
     }
-    assert_eq!(told.0[0], 8, "01 to 08 are accepted");
+    assert_eq!(told.times(0), 8, "01 to 08 are accepted");
     told.all_came_up(&[1, 9]);
 }
 
@@ -101,35 +90,7 @@ fn every_byte_in_a_gate_line() {
 #[test]
 fn malformed_lines() {
     let mut random = Random::new(285);
-    for (text, line) in [
-        (&b""[..], 1),
-        (b"\n", 1),
-        (b"\n\n", 1),
-        (b"0", 1),
-        (b"01", 1),
-        (b"1\n", 1),
-        (b"001\n", 1),
-        (b"0A\n", 1),
-        (b" 1\n", 1),
-        (b"01\r\n", 1),
-        (b"01 \n", 1),
-        (b"01020000\n", 1),
-        (b"01\n\n", 2),
-        (b"01\n0", 2),
-        (b"01\n020000", 2),
-        (b"01\n02000\n", 2),
-        (b"01\n0200000\n", 2),
-        (b"01\n02000A\n", 2),
-        (b"01\n02000g\n", 2),
-        (b"01\n020000\r\n", 2),
-        (b"01\n020000 \n", 2),
-        (b"01\n020000\n\n", 3),
-        (b"01\n020000\n\n020000\n", 3),
-        (b"01\n020000\n0", 3),
-        (b"01\n020000020000\n", 2),
-        (b"0x\n020000\n", 1),
-        (b"01\n0200\n00\n", 2),
-    ] {
+    for (text, line) in MALFORMED {
         assert_eq!(read(text, &mut random), refused(9, line), "{:?}", String::from_utf8_lossy(text));
     }
 }
@@ -138,7 +99,7 @@ fn malformed_lines() {
 #[test]
 fn the_order_of_lines() {
     let mut random = Random::new(286);
-    for n in [0, 9, 10, 16, 17, 128, 255] {
+    for n in NO_WIRE_COUNTS {
         assert_eq!(read(format!("{n:02x}\n").as_bytes(), &mut random), refused(1, 0), "n = {n}");
         assert_eq!(read(format!("{n:02x}\nzz\n").as_bytes(), &mut random), refused(1, 0), "n = {n}");
         assert_eq!(read(format!("{n:02x}").as_bytes(), &mut random), refused(9, 1), "n = {n} without newline");
@@ -153,7 +114,7 @@ fn texts_around_the_most_gates() {
     for n in [1, 8] {
         let most = write(n, &circuit(&mut random, n, MOST_GATES));
         assert!(read(&most, &mut random).is_ok(), "4,096 gate lines");
-        for line in ["020000\n", "\n", "z", "0", "020000", "zzzzzz\n", "02000\n", "020000\n020000\n", "\n\n\n"] {
+        for line in ONE_LINE_MORE {
             let text = [&most[..], line.as_bytes()].concat();
             assert_eq!(read(&text, &mut random), refused(2, 0), "gate line 4,097 is {line:?}");
         }
@@ -198,20 +159,9 @@ fn damaged_texts() {
         let length = random.between(0, 12);
         let mut text = write(n, &circuit(&mut random, n, length));
         for _ in 0..random.between(1, 2) {
-            let place = random.below(text.len());
-            let noise = random.byte();
-            let byte =
-                random.one_of(&[b'\n', b'0', b'9', b'a', b'f', b'g', b'A', b'F', b' ', b'\r', b'/', b':', b'`', noise]);
-            match random.below(3) {
-                0 => text[place] = byte,
-                1 => text.insert(place, byte),
-                _ => drop(text.remove(place)),
-            }
-            if text.is_empty() {
-                break;
-            }
+            damage(&mut text, &mut random);
         }
-        told.note(&text, &mut random);
+        told.note(number_of(read(&text, &mut random)));
     }
     told.all_came_up(&[0, 1, 9]);
 }
@@ -221,11 +171,8 @@ fn damage_in_long_texts() {
     let mut random = Random::new(290);
     let text = write(8, &circuit(&mut random, 8, MOST_GATES));
     for _ in 0..60 {
-        let mut damaged = text.clone();
-        let place = random.below(text.len());
-        damaged[place] = b'x';
-        let line = text[..place].iter().filter(|byte| **byte == b'\n').count() as u64 + 1;
-        assert_eq!(read(&damaged, &mut random), refused(9, line), "byte {place}");
+        let (damaged, line) = crossed_out(&text, &mut random);
+        assert_eq!(read(&damaged, &mut random), refused(9, line));
         let cut = random.below(text.len());
         let _ = read(&text[..cut], &mut random);
     }
@@ -237,14 +184,8 @@ fn texts_of_noise() {
     let mut random = Random::new(291);
     let mut told = Told::default();
     for round in 0..4000 {
-        let length = random.between(0, 40);
-        let noise = random.bytes(length);
-        let text: Vec<u8> = match round % 3 {
-            0 => noise,
-            1 => noise.iter().map(|byte| b"0123456789abcdef\n\n"[usize::from(*byte) % 18]).collect(),
-            _ => [b"0", &[b"0123456789"[random.below(10)]][..], b"\n", &noise].concat(),
-        };
-        told.note(&text, &mut random);
+        let text = noise(round, 40, &mut random);
+        told.note(number_of(read(&text, &mut random)));
     }
     told.all_came_up(&[1, 9]);
 }
