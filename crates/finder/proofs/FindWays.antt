@@ -1,4 +1,4 @@
--- One law for each way out of the entry `find`: the tests that led there give the reply, and what was found for maxWires wires holds for n.
+-- One law for each way out of the entry `find`: the tests that led there give the reply.
 use mathlib.Core.List.{List}
 use mathlib.Core.Logic.{_≢_}
 use mathlib.Core.Path.{_∙_, _≡_, ap, ap₂, refl, sym}
@@ -6,13 +6,13 @@ use Prim.Native.Nat.{_≤_, ℕ}
 use lib.ListN.{length}
 use Rattle.circuit.proofs.Judging.{lent-pass}
 use Rattle.circuit.specs.Faults.{lentFault}
-use Rattle.circuit.specs.Limits.{maxMembers, maxWires, moveBytes, weightBytes}
+use Rattle.circuit.specs.Limits.{maxWires, moveBytes, weightBytes}
 use Rattle.circuit.specs.Sound.{SoundMarks}
 use Rattle.kernel.specs.declared.Offered.the-variants.{Nothing as None, Separating}
-use Rattle.moves.proofs.Wires.{legal-wires, sound-wires}
 use Rattle.weights.proofs.TableRule.{marks-sound}
 use Rattle.weights.proofs.Ways.{call-passes}
 use Rattle.weights.specs.Faults.{callFault, marksFault}
+use Rattle.finder.proofs.OnWires.{searchable, searched-legal, searched-none}
 use Rattle.finder.specs.Entry.{FindMove, findFault}
 use Rattle.finder.specs.Search.{Searched}
 use Rattle.finder.specs.declared.Finding.the-variants.{Found, Nothing, Refused}
@@ -34,21 +34,15 @@ module _ (n : ℕ) (marks forty : List ℕ) (f lent table : ℕ) (by-lent : lent
     sound = marks-sound weightBytes n marks .0 (passed .3)
 
     pub may-search : SoundMarks weightBytes maxWires marks
-    may-search = sound-wires weightBytes n maxWires marks (passed .1) sound
+    may-search = searchable n (passed .1) marks sound
 
     pub bytes-fit : length forty ≡ moveBytes
     bytes-fit = lent-pass (length forty) moveBytes (passed .2)
 
     pub find-found : (forty′ : List ℕ) → Searched marks forty forty′ Separating → FindMove n marks forty forty′ Found
     find-found forty′ s =
-        record {
-          refuses = λ g. absurd (g (sym judged ∙ clear));
-          answers = λ e. record { z = s .z; Y = s .Y; is = s .is; legal = legal-wires weightBytes n maxWires maxMembers marks (passed .1) sound (s .z) (s .Y) .1 (s .legal) };
-        }
+        record { refuses = λ g. absurd (g (sym judged ∙ clear)); answers = λ e. searched-legal n (passed .1) marks sound forty′ s }
 
     pub find-nothing : (forty′ : List ℕ) → Searched marks forty forty′ None → FindMove n marks forty forty′ Nothing
     find-nothing forty′ s =
-        record {
-          refuses = λ g. absurd (g (sym judged ∙ clear));
-          answers = λ e. (s .0, λ z Y l. s .1 z Y (legal-wires weightBytes n maxWires maxMembers marks (passed .1) sound z Y .0 l));
-        }
+        record { refuses = λ g. absurd (g (sym judged ∙ clear)); answers = λ e. (s .0, searched-none n (passed .1) marks sound (s .1)) }

@@ -1,4 +1,5 @@
 pub mod Listing
 pub mod Scanned
+pub mod OnWires
 pub mod FindWays
 pub mod Laws

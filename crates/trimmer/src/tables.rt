@@ -1,4 +1,5 @@
-// The tables that the trim works on, each by one call of a public entry on local arrays: the entry cannot refuse them.
+// The tables that the trim works on, each by one call on local arrays. What is made once in a trim is made by a public entry, which cannot
+// refuse these arrays; what is made for each move, by the functions behind the entries, which judge nothing again.
 ghost use mathlib.Core.Path.{_≡_};
 ghost use Prim.Native.Nat.{_≤_};
 ghost use lib.ListN.{length};
@@ -10,12 +11,14 @@ ghost use Rattle.moves.specs.Log.{LegalBytes, setOf, zOf};
 ghost use Rattle.phase.specs.NewWeights.{newWeights};
 ghost use Rattle.synth.specs.Entry.{WroteBytes};
 ghost use Rattle.trimmer.specs.Steps.{NextMove};
+use carry::flips::carry;
+use carry::legality::set_of;
 use circuit::limits::MOVE_BYTES;
 use circuit::limits::Parity;
 use circuit::limits::ROW_BYTES;
 use circuit::limits::WEIGHT_BYTES;
 use circuit::limits::Weight;
-use finder::Finding;
+use kernel::Offered;
 use synth::Written;
 
 // The odd set of sound weights.
@@ -48,7 +51,7 @@ pub fn moved(n: usize, marks: [u8; WEIGHT_BYTES], forty: [u8; MOVE_BYTES]) -> [u
     ensures { λ r. ⌜ r ≡ carryOut marks (zOf forty) (setOf forty) ⌝ }
 {
     let mut left = marks;
-    carry::carry_out(n, &mut left, &forty);
+    carry(&mut left, forty[0], set_of(&forty));
     left
 }
 
@@ -64,20 +67,13 @@ pub fn next_move(n: usize, marks: [u8; WEIGHT_BYTES]) -> Next
     ensures { λ r. ⌜ NextMove n marks (r .found) (r .forty) ⌝ }
 {
     let mut forty = [0u8; MOVE_BYTES];
-    let reply = finder::find(n, &marks, &mut forty);
+    let reply = finder::search(&marks, &mut forty);
     match reply {
-        Finding::Found => Next {
+        Offered::Separating => Next {
             found: true,
             forty: forty,
         },
-        Finding::Nothing => Next {
-            found: false,
-            forty: forty,
-        },
-        Finding::Refused {
-            number: _,
-            place: _,
-        } => Next {
+        Offered::Nothing => Next {
             found: false,
             forty: forty,
         },

@@ -1,18 +1,21 @@
--- `find` does not refuse sound marks.
+-- Sound marks may be searched, and each answer of the search by its law.
 use mathlib.Core.Path.{refl}
 use borrow.Author.Needs.{needs}
-use Rattle.trimmer.proofs.Calls.{find-answers, found-next, nothing-next, refused-next}
+use Rattle.finder.proofs.OnWires.{searchable}
+use Rattle.trimmer.proofs.Calls.{found-next, nothing-next}
 use Rattle.trimmer.proofs.tables.next_move.Statement.{statement}
 use Rattle.trimmer.proofs.tables.next_move.Tie as tie
 
-slice-aggregate-find : tie.Need-slice-aggregate-find
-slice-aggregate-find c = search needs
+slice-aggregate-search : tie.Need-slice-aggregate-search
+slice-aggregate-search c = search needs
 
-slice-aggregate-find-2 : tie.Need-slice-aggregate-find-2
-slice-aggregate-find-2 c = search needs
+slice-aggregate-search-2 : tie.Need-slice-aggregate-search-2
+slice-aggregate-search-2 c = search needs
 
-find-requires : tie.Need-find-requires
-find-requires c κs = search needs
+search-requires : tie.Need-search-requires
+search-requires c κs =
+    let p = c .before .before .pre in
+    (searchable _ (p .1) _ (p .2), refl)
 
 enum-told : tie.Need-enum-told
 enum-told c = search needs
@@ -20,40 +23,26 @@ enum-told c = search needs
 enum-told-2 : tie.Need-enum-told-2
 enum-told-2 c = search needs
 
-enum-told-3 : tie.Need-enum-told-3
-enum-told-3 c = search needs
-
 returns : tie.Need-returns
 returns c =
     let p = c .before .before .before .before .before .before .pre in
-    let f = c .before .before .before .find in
-    let a = find-answers _ _ _ _ (f .result) (f .ensures) (p .0) (p .1) refl (p .2) in
-    found-next _ _ _ _ (f .result) a (c .enum-told .given .1)
+    let s = c .before .before .before .search in
+    found-next _ (p .1) _ (p .2) (s .last .1 .0) (rw (c .enum-told .given .1) at (s .ensures))
 
 returns-2 : tie.Need-returns-2
 returns-2 c =
     let p = c .before .before .before .before .before .before .pre in
-    let f = c .before .before .before .find in
-    let a = find-answers _ _ _ _ (f .result) (f .ensures) (p .0) (p .1) refl (p .2) in
-    nothing-next _ _ _ _ (f .result) a (c .enum-told2 .given .1)
-
-returns-3 : tie.Need-returns-3
-returns-3 c =
-    let p = c .before .before .before .before .before .before .pre in
-    let f = c .before .before .before .find in
-    let a = find-answers _ _ _ _ (f .result) (f .ensures) (p .0) (p .1) refl (p .2) in
-    refused-next _ _ _ _ (f .result) _ _ a (c .enum-told3 .given .1)
+    let s = c .before .before .before .search in
+    nothing-next _ (p .1) _ (p .2) (s .last .1 .0) ((rw (c .enum-told2 .given .1) at (s .ensures)) .1)
 
 pub next-move-spec : {M : Type 1} → statement M
 next-move-spec =
     tie.close
     (tie.spec
-    slice-aggregate-find
-    slice-aggregate-find-2
-    find-requires
+    slice-aggregate-search
+    slice-aggregate-search-2
+    search-requires
     enum-told
     enum-told-2
-    enum-told-3
     returns
-    returns-2
-    returns-3)
+    returns-2)
