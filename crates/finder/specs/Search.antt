@@ -1,9 +1,10 @@
 -- What the finder's parts promise, for marks of up to maxWires wires.
 use mathlib.Core.List.{List}
+use mathlib.Core.Logic.{_⊎_}
 use mathlib.Core.Path.{_≡_}
-use Prim.Native.Nat.{_≤_, ℕ}
+use Prim.Native.Nat.{_+_, _<_, _≤_, ℕ}
 use lib.ListN.{length, take}
-use Rattle.circuit.specs.Limits.{maxMembers, maxWires, weightBytes}
+use Rattle.circuit.specs.Limits.{maxMembers, maxWires, productBits, weightBytes}
 use Rattle.circuit.specs.Sound.{weight}
 use Rattle.kernel.specs.declared.Offered.{Offered}
 use Rattle.kernel.specs.declared.Offered.the-variants.{Nothing, Separating}
@@ -16,6 +17,11 @@ pub record Gathered (marks list : List ℕ) (count : ℕ) : Type 0 where
   pub fits : count ≤ weightBytes
   pub long : length list ≡ weightBytes
   pub are : take count list ≡ listed weightBytes (weight marks)
+
+-- of so many members the first m are enough to search: they are all, or more than can be without a legal move
+pub record Enough (count m : ℕ) : Type 0 where
+  pub fits : m ≤ count
+  pub which : (m ≡ count) ⊎ (productBits + 1 < m)
 
 -- a legal move is written, or there is none
 abbrev pub Searched : List ℕ → List ℕ → List ℕ → Offered → Type 0

@@ -16,6 +16,7 @@ use circuit::limits::Parity;
 use circuit::limits::WEIGHT_BYTES;
 use columns::table::products;
 use kernel::Offered;
+use members::enough;
 use members::gather;
 use scan::scan_pairs;
 use weights::faults::call_fault;
@@ -49,7 +50,7 @@ pub fn find(n: usize, marks: &[u8], forty: &mut [u8]) -> Finding
 }
 
 // A legal move on all wires, for marks without a fault: the product table is made and the members are gathered once, so that the scan
-// reads the one and goes through the others alone. Internal: the caller has found the marks sound. Public for the trim, which has proved
+// reads the one and goes through the others alone, as many of them as are enough. Internal: the caller has found the marks sound. Public for the trim, which has proved
 // its marks sound and need not have them judged again before each move.
 pub fn search(marks: &[u8], forty: &mut [u8]) -> Offered
     requires { ⌜ SoundMarks weightBytes maxWires (now marks) ⌝ }
@@ -59,5 +60,6 @@ pub fn search(marks: &[u8], forty: &mut [u8]) -> Offered
     let table = products();
     let mut list = [0 as Parity; WEIGHT_BYTES];
     let count = gather(marks, &mut list);
-    scan_pairs(&table, &list[..count], forty)
+    let m = enough(count);
+    scan_pairs(&table, &list[..m], forty)
 }

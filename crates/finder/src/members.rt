@@ -3,7 +3,8 @@ ghost use mathlib.Core.Path.{_≡_};
 ghost use lib.ListN.{length};
 ghost use Rattle.circuit.specs.Limits.{maxWires, weightBytes};
 ghost use Rattle.circuit.specs.Sound.{SoundMarks};
-ghost use Rattle.finder.specs.Search.{Gathered};
+ghost use Rattle.finder.specs.Search.{Enough, Gathered};
+use circuit::limits::MAX_MEMBERS;
 use circuit::limits::Parity;
 use circuit::limits::WEIGHT_BYTES;
 
@@ -24,4 +25,16 @@ pub fn gather(marks: &[u8], list: &mut [Parity; WEIGHT_BYTES]) -> usize
         }
     }
     count
+}
+
+// How many of the members are enough to search. A move that is legal for some of an odd set is legal for all of it, and any MAX_MEMBERS
+// members have one: one more than the bits of a product depend on each other, and another is left over for b.
+pub fn enough(count: usize) -> usize
+    ensures { λ r. ⌜ Enough count r ⌝ }
+{
+    if count < MAX_MEMBERS {
+        count
+    } else {
+        MAX_MEMBERS
+    }
 }

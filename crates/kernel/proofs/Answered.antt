@@ -46,7 +46,7 @@ asked-after z t a b vec mask member bytes bytes₁ bytes₂ p Nothing q = (q .0 
 
 -- ---- the list and its marks
 
-mark-of : (ys : List ℕ) (y : ℕ) → y < weightBytes → getD (marksOf ys) y 0 ≡ occ y ys
+pub mark-of : (ys : List ℕ) (y : ℕ) → y < weightBytes → getD (marksOf ys) y 0 ≡ occ y ys
 unfolding marksOf
 mark-of ys y l = getD-tabulate weightBytes (λ p. occ p ys) y l
 

@@ -1,8 +1,8 @@
--- The list gathered has the marks that were lent.
+-- What is found of the first members gathered is found of the marks that were lent.
 use mathlib.Core.Path.{sym}
 use borrow.Author.Needs.{needs}
 use denote.Ref.{now}
-use Rattle.finder.proofs.Listing.{gathered-length, gathered-members, gathered-search}
+use Rattle.finder.proofs.FirstMembers.{enough-length, enough-members, enough-search}
 use Rattle.finder.proofs.search.Statement.{statement}
 use Rattle.finder.proofs.search.Tie as tie
 
@@ -12,30 +12,36 @@ products-requires c κs = search needs
 gather-requires : tie.Need-gather-requires
 gather-requires c κs = search needs
 
+enough-requires : tie.Need-enough-requires
+enough-requires c κs = search needs
+
 array-share-prefix-list : tie.Need-array-share-prefix-list
 array-share-prefix-list c = search needs
 
 slice-aggregate-scan-pairs : tie.Need-slice-aggregate-scan-pairs
 slice-aggregate-scan-pairs c =
-    let s = c .before .before .before .before .before .before .before in
-    let g = c .before .before .gather in
-    sym (gathered-length (now (s .args .marks)) (g .last .1 .0) (g .result) (s .pre .0) (g .ensures))
+    let s = c .before .before .before .before .before .before .before .before in
+    let g = c .before .before .before .gather in
+    let m = c .before .before .enough in
+    sym (enough-length (now (s .args .marks)) (g .last .1 .0) (g .result) (m .result) (s .pre .0) (g .ensures) (m .ensures))
 
 scan-pairs-requires : tie.Need-scan-pairs-requires
 scan-pairs-requires c κs =
-    let s = c .before .before .before .before .before .before .before .before in
-    let g = c .before .before .before .gather in
-    (c .before .before .before .before .before .products .ensures, (gathered-members (now (s .args .marks)) (g .last .1 .0) (g .result) (s .pre .0) (g .ensures), s .pre .1))
+    let s = c .before .before .before .before .before .before .before .before .before in
+    let g = c .before .before .before .before .gather in
+    let m = c .before .before .before .enough in
+    (c .before .before .before .before .before .before .products .ensures, (enough-members (now (s .args .marks)) (g .last .1 .0) (g .result) (m .result) (s .pre .0) (g .ensures) (m .ensures), s .pre .1))
 
 same-length : tie.Need-same-length
 same-length c = search needs
 
 returns : tie.Need-returns
 returns c =
-    let s = c .before .before .before .before .before .before .before .before .before .before .before in
-    let g = c .before .before .before .before .before .before .gather in
+    let s = c .before .before .before .before .before .before .before .before .before .before .before .before in
+    let g = c .before .before .before .before .before .before .before .gather in
+    let m = c .before .before .before .before .before .before .enough in
     let r = c .before .before .scan-pairs in
-    gathered-search (now (s .args .marks)) (g .last .1 .0) (g .result) (s .pre .0) (g .ensures) (now (s .args .forty)) (r .last .1 .1 .0) (r .result) (r .ensures)
+    enough-search (now (s .args .marks)) (g .last .1 .0) (g .result) (m .result) (s .pre .0) (g .ensures) (m .ensures) (now (s .args .forty)) (r .last .1 .1 .0) (r .result) (r .ensures)
 
 pub search-spec : {M : Type 1} → statement M
 search-spec =
@@ -43,6 +49,7 @@ search-spec =
     (tie.spec
     products-requires
     gather-requires
+    enough-requires
     array-share-prefix-list
     slice-aggregate-scan-pairs
     scan-pairs-requires

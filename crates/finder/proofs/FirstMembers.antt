@@ -1,0 +1,125 @@
+-- The first members of an odd set are enough to search: a move that is legal for them is legal for all, and where they are more than the bound of
+-- document 01, they have one.
+use mathlib.Core.List.{List}
+use mathlib.Core.Logic.{_⊎_, inl, inr}
+use mathlib.Core.Path.{_∙_, _≡_, ap, subst, sym}
+use Prim.Native.Nat.{_*_, _+_, _<_, _≤_, suc, ℕ}
+use native.Mathlib.Decide.{decLt}
+use native.Mathlib.Nat.{le-refl, mul-one}
+use native.Mathlib.Omega.{arith}
+use lib.ListN.{List·getD-eq-default, drop, getD, length, take, take-append-drop}
+use lib.Seq.{getD-take, length-take-le, take-all, take-take}
+use Rattle.circuit.specs.Limits.{maxMembers, maxWires, productBits, weightBytes}
+use Rattle.circuit.specs.OddSet.{members}
+use Rattle.circuit.specs.Sound.{SoundMarks, weight}
+use Rattle.gf2.proofs.Over.{length-sumOver, sumOver-append}
+use Rattle.gf2.proofs.Sum.{sum-ext}
+use Rattle.gf2.proofs.Table.{length-tabulate}
+use Rattle.gf2.specs.Sum.{delta}
+use Rattle.kernel.proofs.Answered.{mark-of}
+use Rattle.kernel.specs.Members.{Members, marksOf}
+use Rattle.kernel.specs.declared.Offered.{Offered}
+use Rattle.kernel.specs.declared.Offered.the-variants.{Nothing, Separating}
+use Rattle.moves.proofs.Bound.{bound}
+use Rattle.moves.proofs.Laws.{limits-suffice}
+use Rattle.moves.proofs.Sets.{occ, sumOver-occ}
+use Rattle.moves.specs.Move.{Legal, Member}
+use Rattle.finder.proofs.Listing.{gathered-length, gathered-members, gathered-search}
+use Rattle.finder.specs.Search.{Enough, Gathered, Searched}
+
+-- a move stays legal where more is marked
+legal-more : (most n : ℕ) (marks more : List ℕ) → ((p : ℕ) → weight marks p ≤ weight more p) → ((p : ℕ) → weight more p < 2) → (z : ℕ) (Y : List ℕ)
+    → Legal most n marks z Y → Legal most n more z Y
+legal-more most n marks more le bits z Y g =
+    let s = g .separates in
+    record {
+      few = g .few;
+      ordered = g .ordered;
+      marked = λ y t. member y (g .marked y t);
+      separates = record { a = s .a; b = s .b; a-in = s .a-in; b-member = member (s .b) (s .b-member); b-out = s .b-out; z-is = s .z-is };
+      balanced = g .balanced;
+    }
+  where
+    member : (p : ℕ) → Member marks p → Member more p
+    member p m = omega (arith, le p, bits p)
+
+marks-long : (ys : List ℕ) → length (marksOf ys) ≡ weightBytes
+unfolding marksOf
+marks-long ys = length-tabulate weightBytes (λ p. occ p ys)
+
+-- the marks of a list of members are as many as the list has
+members-listed : (ys : List ℕ) → Members ys → members (marksOf ys) ≡ length ys
+unfolding members
+members-listed ys h =
+    rw (marks-long ys)
+    (sum-ext weightBytes (λ p. getD (marksOf ys) p 0) (λ p. occ p ys * 1) (λ p l. mark-of ys p l ∙ sym (mul-one (occ p ys)))
+    ∙ sym (sumOver-occ weightBytes (λ y. 1) ys (h .below)) ∙ sym (length-sumOver ys))
+
+module _ (k : ℕ) (ys : List ℕ) (h : Members ys) (fits : k ≤ length ys) where
+  long : length (take k ys) ≡ k
+  long = length-take-le k ys fits
+
+  first-le : (p : ℕ) → weight (marksOf (take k ys)) p ≤ weight (marksOf ys) p
+  first-le p = go (decLt p weightBytes)
+    where
+      fewer : occ p (take k ys) ≤ occ p ys
+      fewer = omega (arith, sumOver-append (delta p) (take k ys) (drop k ys), ap (occ p) (take-append-drop k ys))
+
+      go : Dec (p < weightBytes) → weight (marksOf (take k ys)) p ≤ weight (marksOf ys) p
+      go (yes l) = omega (arith, mark-of (take k ys) p l, mark-of ys p l, fewer)
+      go (no l) = omega (arith, List·getD-eq-default (marksOf (take k ys)) 0 {n = p} (omega (arith, marks-long (take k ys))))
+
+  pub first-members : Members (take k ys)
+  first-members =
+      record {
+        ordered = λ i l. omega (arith, getD-take k ys i 0 (omega (arith, long)), getD-take k ys (suc i) 0 (omega (arith, long)), h .ordered i (omega (arith, long)));
+        below = λ i l. omega (arith, getD-take k ys i 0 (omega (arith, long)), h .below i (omega (arith, long)));
+        sound =
+            record {
+              long = marks-long (take k ys);
+              bits = λ p. omega (arith, first-le p, h .sound .bits p);
+              none = omega (arith, first-le 0, h .sound .none);
+              high = λ p l. omega (arith, first-le p, h .sound .high p l);
+            };
+      }
+
+  -- none is legal for the first: then they are all, since more than the bound have a legal move
+  all-or-none : (k ≡ length ys) ⊎ (productBits + 1 < k) → ((z : ℕ) (Y : List ℕ) → Legal maxMembers maxWires (marksOf (take k ys)) z Y → ⊥)
+      → (z : ℕ) (Y : List ℕ) → Legal maxMembers maxWires (marksOf ys) z Y → ⊥
+  all-or-none (inl e) none = subst (λ (l : List ℕ). (z : ℕ) (Y : List ℕ) → Legal maxMembers maxWires (marksOf l) z Y → ⊥) (take-all k ys (omega arith)) none
+  all-or-none (inr l) none =
+      let s = limits-suffice maxWires (le-refl _) in
+      absurd (omega (arith, bound weightBytes maxWires maxMembers (marksOf (take k ys)) (first-members .sound) (s .1) none, s .2, members-listed (take k ys) first-members, long))
+
+  -- what was found of the first is found of all
+  pub first-search : Enough (length ys) k → (bytes bytes′ : List ℕ) (r : Offered) → Searched (marksOf (take k ys)) bytes bytes′ r → Searched (marksOf ys) bytes bytes′ r
+  first-search e bytes bytes′ Separating s =
+      record {
+        z = s .z;
+        Y = s .Y;
+        is = s .is;
+        legal = legal-more maxMembers maxWires (marksOf (take k ys)) (marksOf ys) first-le (h .sound .bits) (s .z) (s .Y) (s .legal);
+      }
+  first-search e bytes bytes′ Nothing s = (s .0, all-or-none (e .which) (s .1))
+
+-- ---- of what was gathered, the first m
+
+module _ (marks list : List ℕ) (count m : ℕ) (sound : SoundMarks weightBytes maxWires marks) (g : Gathered marks list count) (e : Enough count m) where
+  counted : length (take count list) ≡ count
+  counted = gathered-length marks list count sound g
+
+  same : take m (take count list) ≡ take m list
+  same = take-take m count list (e .fits)
+
+  pub enough-length : length (take m list) ≡ m
+  enough-length = length-take-le m list (omega (arith, e .fits, g .fits, g .long))
+
+  pub enough-members : Members (take m list)
+  enough-members = subst Members same (first-members m (take count list) (gathered-members marks list count sound g) (omega (arith, e .fits, counted)))
+
+  -- what was found of them is found of the marks
+  pub enough-search : (bytes bytes′ : List ℕ) (r : Offered) → Searched (marksOf (take m list)) bytes bytes′ r → Searched marks bytes bytes′ r
+  enough-search bytes bytes′ r s =
+      gathered-search marks list count sound g bytes bytes′ r
+      (first-search m (take count list) (gathered-members marks list count sound g) (omega (arith, e .fits, counted)) (rw counted e) bytes bytes′ r
+      (subst (λ (l : List ℕ). Searched (marksOf l) bytes bytes′ r) (sym same) s))
