@@ -50,8 +50,8 @@ pub fn find(n: usize, marks: &[u8], forty: &mut [u8]) -> Finding
 }
 
 // A legal move on all wires, for marks without a fault: the product table is made and the members are gathered once, so that the scan
-// reads the one and goes through the others alone, as many of them as are enough. Internal: the caller has found the marks sound. Public for the trim, which has proved
-// its marks sound and need not have them judged again before each move.
+// reads the one and goes through the others alone, as many of them as are enough. Internal: the caller has found the marks sound. It is
+// public for the trim, which has proved its marks sound and need not have them judged again before each move.
 pub fn search(marks: &[u8], forty: &mut [u8]) -> Offered
     requires { ⌜ SoundMarks weightBytes maxWires (now marks) ⌝ }
     requires { ⌜ length (now forty) ≡ moveBytes ⌝ }

@@ -10,13 +10,11 @@ use Rattle.circuit.specs.Limits.{logBytes, maxMembers, maxWires, moveBytes, wei
 use Rattle.circuit.specs.OddSet.{members}
 use Rattle.circuit.specs.Sound.{SoundMarks}
 use Rattle.gf2.proofs.Sum.{sum-const, sum-front, sum-le}
-use Rattle.moves.proofs.Finding.{none}
 use Rattle.moves.proofs.Laws.{limits-suffice, move-leaves-sound, move-shrinks}
 use Rattle.moves.proofs.Logs.{bytes-length, bytes-say, logged-length, logged-more}
 use Rattle.moves.proofs.Replaying.{replays-more, replays-none, replays-shrinks, replays-sound}
 use Rattle.moves.specs.CarryOut.{carryOut}
 use Rattle.moves.specs.Log.{LegalBytes, logged, setOf, zOf}
-use Rattle.phase.specs.NewWeights.{rest}
 use Rattle.trimmer.specs.Steps.{Made}
 
 pub made-none : (n : ℕ) (m log : List ℕ) (k : ℕ) → k ≡ 0 → Made n m log k m log

@@ -3,7 +3,6 @@ use mathlib.Core.List.{List}
 use mathlib.Core.Logic.{_≢_}
 use mathlib.Core.Path.{ap, refl, subst, sym, _∙_, _≡_}
 use Prim.Native.Nat.{_%_, ℕ, _≤_}
-use native.Mathlib.Omega.{arith}
 use lib.ListN.{length}
 use Rattle.circuit.proofs.Judging.{done-formed, list-pass, or-pass, refused, short-pass, wires-pass}
 use Rattle.circuit.specs.Faults.{Accepted, firstFault, listFault, orElse, refuse, shortFault, wiresFault}
@@ -11,7 +10,6 @@ use Rattle.circuit.specs.Gate.{gatesOf}
 use Rattle.circuit.specs.Limits.{gateBytes, logBytes, maxListBytes, maxWires, writeBytes}
 use Rattle.trimmer.specs.Entry.{Done-with, Outcome, TrimList, trimFault, verdict}
 use Rattle.trimmer.specs.declared.Counts.{Counts}
-use Rattle.trimmer.specs.declared.TrimReply.{TrimReply}
 use Rattle.trimmer.specs.declared.TrimReply.the-variants.{Done, Refused}
 use Rattle.circuit.specs.declared.Reply.{Reply}
 use Rattle.circuit.specs.declared.Reply.the-variants as reply

@@ -18,7 +18,6 @@ use Rattle.circuit.specs.Run.{run}
 use Rattle.circuit.specs.Says.{endState, phaseAt}
 use Rattle.circuit.specs.Sound.{SoundMarks, SoundWeights}
 use Rattle.moves.proofs.Bound.{bound}
-use Rattle.moves.proofs.Finding.{none}
 use Rattle.moves.proofs.Laws.{limits-suffice, none-legal-bound}
 use Rattle.moves.proofs.Logs.{logged-length}
 use Rattle.moves.proofs.Replaying.{replays-shrinks, replays-signature, replays-sound, signature-trans}

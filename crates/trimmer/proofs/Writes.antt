@@ -1,10 +1,9 @@
 -- `write` called with sound weights and rows writes them.
 use mathlib.Core.List.{List}
-use mathlib.Core.Path.{_≡_, subst, sym, _∙_, _≡_}
+use mathlib.Core.Path.{_≡_, subst, sym, _∙_}
 use Prim.Native.Nat.{ℕ}
 use native.Mathlib.Omega.{arith}
 use lib.ListN.{length}
-use Rattle.moves.proofs.Products.{place}
 use Rattle.synth.proofs.Laws.{writable-is-written}
 use Rattle.synth.specs.Entry.{WriteList, WroteBytes}
 use Rattle.synth.specs.Faults.{Writable}

@@ -9,7 +9,6 @@ use Rattle.moves.specs.CarryOut.{carryOut}
 use Rattle.moves.specs.Log.{LegalBytes, logged, setOf, zOf}
 use Rattle.moves.specs.Move.{Legal}
 use Rattle.moves.specs.Replay.{Replays}
-use Rattle.phase.specs.NewWeights.{next, rest}
 
 -- a legal move for the marks, or none at all
 pub record NextMove (n : ℕ) (marks : List ℕ) (found : Bool) (forty : List ℕ) : Type 0 where

@@ -1,9 +1,9 @@
 // The counts of a trim: T and T dagger gates of a list, and members of an odd set.
 ghost use mathlib.Core.Path.{_≡_};
-ghost use Prim.Native.Nat.{_<_, _≤_};
+ghost use Prim.Native.Nat.{_<_};
 ghost use lib.ListN.{length};
 ghost use Rattle.circuit.specs.Gate.{isT, tGates, gatesOf};
-ghost use Rattle.circuit.specs.Limits.{maxListBytes, weightBytes};
+ghost use Rattle.circuit.specs.Limits.{weightBytes};
 ghost use Rattle.circuit.specs.OddSet.{members};
 use circuit::limits::GATE_BYTES;
 use circuit::limits::WEIGHT_BYTES;

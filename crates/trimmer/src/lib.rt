@@ -2,7 +2,6 @@
 // Public entry: `trim`. Its promise is the record TrimList of specs/Entry; for an accepted circuit it is demand 3 whole, the record
 // Trimmed of specs/Trimmed.
 
-ghost use mathlib.Core.Path.{_≡_};
 ghost use Prim.Native.Nat.{_≤_};
 ghost use lib.ListN.{length};
 ghost use Rattle.circuit.specs.Faults.{Accepted};

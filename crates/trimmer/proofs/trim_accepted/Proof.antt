@@ -1,5 +1,4 @@
 -- Each step leaves what the next one needs, and `finish` puts them together.
-use mathlib.Core.Option.{some}
 use mathlib.Core.Path.{refl}
 use borrow.Author.Needs.{needs}
 use denote.Ref.{now}

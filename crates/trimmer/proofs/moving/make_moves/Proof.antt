@@ -8,7 +8,6 @@ use Rattle.circuit.specs.Limits.{weightBytes}
 use Rattle.circuit.specs.OddSet.{members}
 use Rattle.circuit.specs.Sound.{SoundMarks}
 use Rattle.moves.proofs.Finding.{found, none}
-use Rattle.phase.specs.NewWeights.{next}
 use Rattle.trimmer.proofs.Making.{bytes-long, few-moves, made-more, made-none, move-room, move-smaller, still-sound}
 use Rattle.trimmer.specs.Steps.{Made, NextMove}
 use Rattle.trimmer.proofs.moving.make_moves.Statement.{statement}

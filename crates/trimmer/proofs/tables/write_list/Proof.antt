@@ -1,5 +1,4 @@
 -- `write` does not refuse sound weights and rows.
-use mathlib.Core.Option.{some}
 use borrow.Author.Needs.{needs}
 use Rattle.synth.proofs.RowRule.{rows-sound}
 use Rattle.weights.proofs.TableRule.{weights-sound}
