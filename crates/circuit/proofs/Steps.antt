@@ -78,17 +78,17 @@ module _ (N n : ℕ) (fit : n ≤ N) (bytes : List ℕ) (whole : Reading) (i : �
     pub cnot-wires : (a < N) × (b < N)
     cnot-wires = let f = formed Cnot is in (omega (arith, f .0), omega (arith, f .1))
 
-    pub cnot-on : (j x : ℕ) → j ≡ b → x ≡ bitXor (getD rows b 0) (getD rows a 0) → ReadTo N n bytes whole (i + 1) (tables w (set rows j x))
+    pub cnot-on : (h j : ℕ) → h ≡ a → j ≡ b → ReadTo N n bytes whole (i + 1) (tables w (set rows j (bitXor (getD rows j 0) (getD rows h 0))))
     unfolding readKind
-    cnot-on j x e f = read-on Cnot is (tables w (set rows j x)) (rw (e, f))
+    cnot-on h j e f = read-on Cnot is (tables w (set rows j (bitXor (getD rows j 0) (getD rows h 0)))) (rw (e, f))
 
   module _ (v : ℕ) (is : Phase v ≡ kindOf kind) where
     pub phase-wire : a < N
     phase-wire = omega (arith, formed (Phase v) is .0)
 
-    pub phase-on : (q x : ℕ) → q ≡ getD rows a 0 → x ≡ (getD w q 0 + v) % 8 → ReadTo N n bytes whole (i + 1) (tables (set w q x) rows)
+    pub phase-on : (h q x : ℕ) → h ≡ a → q ≡ getD rows h 0 → x ≡ (getD w q 0 + v) % 8 → ReadTo N n bytes whole (i + 1) (tables (set w q x) rows)
     unfolding readKind
-    phase-on q x e f = read-on (Phase v) is (tables (set w q x) rows) (rw (f, e))
+    phase-on h q x d e f = read-on (Phase v) is (tables (set w q x) rows) (rw (f, e, d))
 
   pub unknown-on : Unknown ≡ kindOf kind → ReadTo N n bytes whole (i + 1) (tables w rows)
   unfolding readKind

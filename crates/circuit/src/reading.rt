@@ -1,8 +1,6 @@
 // Reading gates that have no fault into weights and rows (document 01, "Weights and rows").
 ghost use mathlib.Core.Path.{_≡_};
 ghost use Prim.Native.Nat.{_+_, _%_, _<_, _≤_};
-ghost use lib.Bits.{bitXor};
-ghost use lib.ListN.{getD};
 ghost use Rattle.circuit.specs.Limits.{maxWires, weightBytes};
 ghost use Rattle.circuit.specs.Gate.{gatesOf};
 ghost use Rattle.circuit.specs.Read.{start, firstRow};
@@ -35,12 +33,16 @@ pub fn read_gates(n: usize, gates: &[u8]) -> Tables
         let b = gates[GATE_BYTES * g + 2];
         g += 1;
         match said {
+            // A CNOT XORs its control's parity into its target's.
             Kind::Cnot => {
+                let i = index_of(a);
                 let j = index_of(b);
-                t.rows[j] = joined(t.rows, a, b);
+                t.rows[j] = t.rows[j] ^ t.rows[i];
             }
+            // A gate's phase is added at the parity that its wire holds.
             Kind::Phase(v) => {
-                let q = held(t.rows, a);
+                let i = index_of(a);
+                let q = index_of(t.rows[i]);
                 t.weights[q] = add_phase(t.weights[q], v);
             }
             Kind::Unknown => {}
@@ -71,16 +73,6 @@ fn first_row(n: usize, i: usize) -> Parity
     if i < n { 1 << i } else { 0 }
 }
 
-// A CNOT XORs its control's parity into its target's.
-fn joined(rows: [Parity; ROW_BYTES], a: u8, b: u8) -> Parity
-    requires { ⌜ (a < maxWires) × (b < maxWires) ⌝ }
-    ensures { λ r. ⌜ r ≡ bitXor (getD rows b 0) (getD rows a 0) ⌝ }
-{
-    let i = a as usize;
-    let j = b as usize;
-    rows[j] ^ rows[i]
-}
-
 // A gate's phase is added, modulo 8.
 fn add_phase(w: Weight, v: u8) -> Weight
     requires { ⌜ (w < 8) × (v < 8) ⌝ }
@@ -89,15 +81,7 @@ fn add_phase(w: Weight, v: u8) -> Weight
     (w + v) % 8
 }
 
-// The parity that wire a holds, as the place of the weights where its gate's phase is added.
-fn held(rows: [Parity; ROW_BYTES], a: u8) -> usize
-    requires { ⌜ a < maxWires ⌝ }
-    ensures { λ r. ⌜ (r ≡ getD rows a 0) × (r < weightBytes) ⌝ }
-{
-    let i = a as usize;
-    index_of(rows[i])
-}
-
+// A parity or a wire as a place in a table.
 fn index_of(p: Parity) -> usize
     ensures { λ r. ⌜ (r ≡ p) × (r < weightBytes) ⌝ }
 {

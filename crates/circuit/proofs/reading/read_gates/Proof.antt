@@ -71,50 +71,68 @@ enum-told c = search needs
 index-of-requires : tie.Need-index-of-requires Inv-loop μ-loop
 index-of-requires c κs = search needs
 
-joined-requires : tie.Need-joined-requires Inv-loop μ-loop
-joined-requires c κs =
+index-of-requires-2 : tie.Need-index-of-requires-2 Inv-loop μ-loop
+index-of-requires-2 c κs = search needs
+
+element-copy-out-t : tie.Need-element-copy-out-t Inv-loop μ-loop
+element-copy-out-t c =
     let at = c .before .before .before .before .before .before .before .before .before in
     let a = at .before .before .before .args in
     let g = now (a .gates) in
-    cnot-wires maxWires (a .n) (at .before .before .before .pre .0) g (readBytes (a .n) g) (at .loop .g) (omega arith) (at .loop .t .weights) (at .loop .t .rows) (at .loop .inv .2) (sym (c .before .before .enum-told .given .1) ∙ c .before .before .before .before .before .before .kind-of .ensures)
+    let f = cnot-wires maxWires (a .n) (at .before .before .before .pre .0) g (readBytes (a .n) g) (at .loop .g) (omega arith) (at .loop .t .weights) (at .loop .t .rows) (at .loop .inv .2) (sym (c .before .before .enum-told .given .1) ∙ c .before .before .before .before .before .before .kind-of .ensures) in
+    omega (arith, f .1, c .index-of2 .ensures .0)
 
-element-write-t : tie.Need-element-write-t Inv-loop μ-loop
-element-write-t c =
+element-copy-out-t-2 : tie.Need-element-copy-out-t-2 Inv-loop μ-loop
+element-copy-out-t-2 c =
     let at = c .before .before .before .before .before .before .before .before .before .before in
     let a = at .before .before .before .args in
     let g = now (a .gates) in
     let f = cnot-wires maxWires (a .n) (at .before .before .before .pre .0) g (readBytes (a .n) g) (at .loop .g) (omega arith) (at .loop .t .weights) (at .loop .t .rows) (at .loop .inv .2) (sym (c .before .before .before .enum-told .given .1) ∙ c .before .before .before .before .before .before .before .kind-of .ensures) in
-    omega (arith, f .0, f .1, c .before .before .index-of .ensures .0)
+    omega (arith, f .0, c .before .before .index-of .ensures .0)
+
+element-write-t : tie.Need-element-write-t Inv-loop μ-loop
+element-write-t c =
+    let at = c .before .before .before .before .before .before .before .before .before .before .before in
+    let a = at .before .before .before .args in
+    let g = now (a .gates) in
+    let f = cnot-wires maxWires (a .n) (at .before .before .before .pre .0) g (readBytes (a .n) g) (at .loop .g) (omega arith) (at .loop .t .weights) (at .loop .t .rows) (at .loop .inv .2) (sym (c .before .before .before .before .enum-told .given .1) ∙ c .before .before .before .before .before .before .before .before .kind-of .ensures) in
+    omega (arith, f .1, c .before .before .index-of2 .ensures .0)
 
 loop-less : tie.Need-loop-less Inv-loop μ-loop
 loop-less c = search needs
 
 loop-again : tie.Need-loop-again Inv-loop μ-loop
 loop-again c =
-    let at = c .before .before .before .before .before .before .before .before .before .before in
+    let at = c .before .before .before .before .before .before .before .before .before .before .before in
     let a = at .before .before .before .args in
     let g = now (a .gates) in
-    (search needs, search needs, cnot-on maxWires (a .n) (at .before .before .before .pre .0) g (readBytes (a .n) g) (at .loop .g) (omega arith) (at .loop .t .weights) (at .loop .t .rows) (at .loop .inv .2) (sym (c .before .before .before .enum-told .given .1) ∙ c .before .before .before .before .before .before .before .kind-of .ensures) (c .before .before .index-of .result) (c .joined .result) (c .before .before .index-of .ensures .0) (c .joined .ensures))
+    (search needs, search needs, cnot-on maxWires (a .n) (at .before .before .before .pre .0) g (readBytes (a .n) g) (at .loop .g) (omega arith) (at .loop .t .weights) (at .loop .t .rows) (at .loop .inv .2) (sym (c .before .before .before .before .enum-told .given .1) ∙ c .before .before .before .before .before .before .before .before .kind-of .ensures) (c .before .before .before .index-of .result) (c .before .before .index-of2 .result) (c .before .before .before .index-of .ensures .0) (c .before .before .index-of2 .ensures .0))
 
 enum-known-said : tie.Need-enum-known-said Inv-loop μ-loop
 enum-known-said c = search needs
 
-held-requires : tie.Need-held-requires Inv-loop μ-loop
-held-requires c κs =
+index-of-requires-3 : tie.Need-index-of-requires-3 Inv-loop μ-loop
+index-of-requires-3 c κs = search needs
+
+element-copy-out-index-of : tie.Need-element-copy-out-index-of Inv-loop μ-loop
+element-copy-out-index-of c =
     let at = c .before .before .before .before .before .before .before .before .before in
     let a = at .before .before .before .args in
     let g = now (a .gates) in
-    phase-wire maxWires (a .n) (at .before .before .before .pre .0) g (readBytes (a .n) g) (at .loop .g) (omega arith) (at .loop .t .weights) (at .loop .t .rows) (at .loop .inv .2) (c .before .before .said .given .0 .0) (sym (c .before .before .said .given .1) ∙ c .before .before .before .before .before .before .kind-of .ensures)
+    omega (arith, phase-wire maxWires (a .n) (at .before .before .before .pre .0) g (readBytes (a .n) g) (at .loop .g) (omega arith) (at .loop .t .weights) (at .loop .t .rows) (at .loop .inv .2) (c .before .before .said .given .0 .0) (sym (c .before .before .said .given .1) ∙ c .before .before .before .before .before .before .kind-of .ensures), c .index-of3 .ensures .0)
+
+index-of-requires-4 : tie.Need-index-of-requires-4 Inv-loop μ-loop
+index-of-requires-4 c κs = search needs
 
 element-copy-out-add-phase : tie.Need-element-copy-out-add-phase Inv-loop μ-loop
 element-copy-out-add-phase c = search needs
 
 add-phase-requires : tie.Need-add-phase-requires Inv-loop μ-loop
 add-phase-requires c κs =
-    let at = c .before .before .before .before .before .before .before .before .before .before .before in
+    let at = c .before .before .before .before .before .before .before .before .before .before .before .before in
     let a = at .before .before .before .args in
     let g = now (a .gates) in
-    (at .loop .inv .2 .1 .weights .small (c .before .held .result), phase-lt (getD g (3 * at .loop .g) 0) (c .before .before .before .before .said .given .0 .0) (sym (c .before .before .before .before .before .before .before .before .kind-of .ensures) ∙ c .before .before .before .before .said .given .1))
+    (at .loop .inv .2 .1 .weights .small (c .before .index-of4 .result), phase-lt (getD g (3 * at .loop .g) 0) (c .before .before .before .before .before .said .given .0 .0) (sym (c .before .before .before .before .before .before .before .before .before .kind-of .ensures) ∙ c .before .before .before .before .before .said .given .1))
 
 element-write-t-2 : tie.Need-element-write-t-2 Inv-loop μ-loop
 element-write-t-2 c = search needs
@@ -124,10 +142,10 @@ loop-less-2 c = search needs
 
 loop-again-2 : tie.Need-loop-again-2 Inv-loop μ-loop
 loop-again-2 c =
-    let at = c .before .before .before .before .before .before .before .before .before .before .before .before in
+    let at = c .before .before .before .before .before .before .before .before .before .before .before .before .before in
     let a = at .before .before .before .args in
     let g = now (a .gates) in
-    (search needs, search needs, phase-on maxWires (a .n) (at .before .before .before .pre .0) g (readBytes (a .n) g) (at .loop .g) (omega arith) (at .loop .t .weights) (at .loop .t .rows) (at .loop .inv .2) (c .before .before .before .before .before .said .given .0 .0) (sym (c .before .before .before .before .before .said .given .1) ∙ c .before .before .before .before .before .before .before .before .before .kind-of .ensures) (c .before .before .held .result) (c .add-phase .result) (c .before .before .held .ensures .0) (c .add-phase .ensures))
+    (search needs, search needs, phase-on maxWires (a .n) (at .before .before .before .pre .0) g (readBytes (a .n) g) (at .loop .g) (omega arith) (at .loop .t .weights) (at .loop .t .rows) (at .loop .inv .2) (c .before .before .before .before .before .before .said .given .0 .0) (sym (c .before .before .before .before .before .before .said .given .1) ∙ c .before .before .before .before .before .before .before .before .before .before .kind-of .ensures) (c .before .before .before .before .index-of3 .result) (c .before .before .index-of4 .result) (c .add-phase .result) (c .before .before .before .before .index-of3 .ensures .0) (c .before .before .index-of4 .ensures .0) (c .add-phase .ensures))
 
 enum-told-2 : tie.Need-enum-told-2 Inv-loop μ-loop
 enum-told-2 c = search needs
@@ -148,4 +166,41 @@ returns c =
     reads-end (now (at .before .before .before .args .gates)) (at .loop .g) (readingOf (at .loop .t)) (omega arith) ∙ at .loop .inv .2 .2
 
 pub read-gates-spec : {M : Type 1} → statement M
-read-gates-spec = tie.close (tie.spec Inv-loop μ-loop first-tables-requires loop-holds mul-kind-of shared-slice-read-kind-of kind-of-requires mul-a add-a shared-slice-read-a mul-b add-b shared-slice-read-b add-g enum-told index-of-requires joined-requires element-write-t loop-less loop-again enum-known-said held-requires element-copy-out-add-phase add-phase-requires element-write-t-2 loop-less-2 loop-again-2 enum-told-2 loop-less-3 loop-again-3 returns)
+read-gates-spec =
+    tie.close
+    (tie.spec
+    Inv-loop
+    μ-loop
+    first-tables-requires
+    loop-holds
+    mul-kind-of
+    shared-slice-read-kind-of
+    kind-of-requires
+    mul-a
+    add-a
+    shared-slice-read-a
+    mul-b
+    add-b
+    shared-slice-read-b
+    add-g
+    enum-told
+    index-of-requires
+    index-of-requires-2
+    element-copy-out-t
+    element-copy-out-t-2
+    element-write-t
+    loop-less
+    loop-again
+    enum-known-said
+    index-of-requires-3
+    element-copy-out-index-of
+    index-of-requires-4
+    element-copy-out-add-phase
+    add-phase-requires
+    element-write-t-2
+    loop-less-2
+    loop-again-2
+    enum-told-2
+    loop-less-3
+    loop-again-3
+    returns)
