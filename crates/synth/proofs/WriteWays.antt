@@ -19,7 +19,7 @@ use Rattle.synth.proofs.GateBytes.{gates-of-bytes, length-bytes}
 use Rattle.synth.proofs.RowRule.{or-first, or-second, rows-sound}
 use Rattle.synth.proofs.Stores.{room-first, room-then, stored-front, stored-long, stored-rest, stored-then}
 use Rattle.synth.proofs.WriteBack.{list-written}
-use Rattle.synth.specs.Entry.{WriteList, Wrote, frontGates, writeReply}
+use Rattle.synth.specs.Entry.{WriteList, Wrote, WroteBytes, frontGates, writeReply}
 use Rattle.synth.specs.Faults.{Writable, rowsFault, writeFault}
 use Rattle.synth.specs.Storing.{Room, Stored}
 use Rattle.synth.specs.Writing.{writeList, writePhases, writeRows}
@@ -74,51 +74,60 @@ module _ (n : ℕ) (w rows g : List ℕ) (f : ℕ) (judged : f ≡ writeFault n 
   write-refused h = record { reply = refusal f 0 h ∙ ap (λ (x : ℕ). writeReply x 0) judged; gates-left = refl }
 
   module _ (clear : f ≡ 0) where
-    ready : Writable n w rows (length g)
-    ready = fault-ready n w rows (length g) (sym judged ∙ clear)
+    pub may-write : Writable n w rows (length g)
+    may-write = fault-ready n w rows (length g) (sym judged ∙ clear)
 
-    wrote : Wrote maxWires n w rows (writeList maxWires n w rows)
-    wrote = list-written maxWires n (ready .few) w rows (ready .weights-sound) (ready .rows-sound)
+    pub write-done : (g′ : List ℕ) (count : ℕ) → WroteBytes n w rows g g′ count → WriteList n w rows g g′ (Done count)
+    write-done g′ count d = record { reply = ap (λ (x : ℕ). writeReply x count) (sym clear ∙ judged); gates-left = d }
 
-    room : Room g 0 (writePhases maxWires n w (2 ^ n) ++ writeRows n rows)
-    room = omega (arith, wrote .short, longest n (ready .few), ready .room)
+-- ---- the gates stored
 
-    pub phases-ready : (n ≤ maxWires) × SoundWeights weightBytes n w × Room g 0 (writePhases maxWires n w (2 ^ n))
-    phases-ready = (ready .few, ready .weights-sound, room-first g 0 (writePhases maxWires n w (2 ^ n)) (writeRows n rows) room)
+module _ (n : ℕ) (w rows g : List ℕ) (ready : Writable n w rows (length g)) where
+  wrote : Wrote maxWires n w rows (writeList maxWires n w rows)
+  wrote = list-written maxWires n (ready .few) w rows (ready .weights-sound) (ready .rows-sound)
 
-    pub rows-long : length rows ≡ rowBytes
-    rows-long = ready .rows-sound .long
+  room : Room g 0 (writePhases maxWires n w (2 ^ n) ++ writeRows n rows)
+  room = omega (arith, wrote .short, longest n (ready .few), ready .room)
 
-    -- m is the copy of the rows
-    module _ (g₁ : List ℕ) (k : ℕ) (a : Stored g g₁ 0 k (writePhases maxWires n w (2 ^ n))) (m : List ℕ) (same : m ≡ rows) where
-      pub rows-ready : (n ≤ maxWires) × SoundRows maxWires n m × Room g₁ k (writeRows n m)
-      rows-ready = rw same (ready .few, ready .rows-sound, room-then g g₁ 0 k (writePhases maxWires n w (2 ^ n)) (writeRows n rows) a room)
+  pub phases-ready : (n ≤ maxWires) × SoundWeights weightBytes n w × Room g 0 (writePhases maxWires n w (2 ^ n))
+  phases-ready = (ready .few, ready .weights-sound, room-first g 0 (writePhases maxWires n w (2 ^ n)) (writeRows n rows) room)
 
-      pub write-done : (g₂ : List ℕ) (count : ℕ) → Stored g₁ g₂ k count (writeRows n m) → WriteList n w rows g g₂ (Done count)
-      write-done g₂ count b =
-          record {
-            reply = ap (λ (x : ℕ). writeReply x count) (sym clear ∙ judged);
-            gates-left = record { counted = omega (arith, all .count, ap length front); accepted = accepted; list = subst (λ (hs : List Gate). Wrote maxWires n w rows hs) (sym front) wrote; rest = stored-rest g g₂ count gs all room; long = stored-long g g₂ count gs all room };
-          }
-        where
-          gs : List Gate
-          gs = writePhases maxWires n w (2 ^ n) ++ writeRows n rows
+  pub rows-long : length rows ≡ rowBytes
+  rows-long = ready .rows-sound .long
 
-          all : Stored g g₂ 0 count gs
-          all = stored-then g g₁ 0 k (writePhases maxWires n w (2 ^ n)) (writeRows n rows) a g₂ count (subst (λ (x : List ℕ). Stored g₁ g₂ k count (writeRows n x)) same b)
+  -- m is the copy of the rows
+  module _ (g₁ : List ℕ) (k : ℕ) (a : Stored g g₁ 0 k (writePhases maxWires n w (2 ^ n))) (m : List ℕ) (same : m ≡ rows) where
+    pub rows-ready : (n ≤ maxWires) × SoundRows maxWires n m × Room g₁ k (writeRows n m)
+    rows-ready = rw same (ready .few, ready .rows-sound, room-then g g₁ 0 k (writePhases maxWires n w (2 ^ n)) (writeRows n rows) a room)
 
-          bytes : take (gateBytes * count) g₂ ≡ bytesOf gs
-          bytes = stored-front g g₂ count gs all room
+    pub gates-stored : (g₂ : List ℕ) (count : ℕ) → Stored g₁ g₂ k count (writeRows n m) → WroteBytes n w rows g g₂ count
+    gates-stored g₂ count b =
+        record {
+          counted = omega (arith, all .count, ap length front);
+          accepted = accepted;
+          list = subst (λ (hs : List Gate). Wrote maxWires n w rows hs) (sym front) wrote;
+          rest = stored-rest g g₂ count gs all room;
+          long = stored-long g g₂ count gs all room;
+        }
+      where
+        gs : List Gate
+        gs = writePhases maxWires n w (2 ^ n) ++ writeRows n rows
 
-          front : frontGates count g₂ ≡ gs
-          front = ap gatesOf bytes ∙ gates-of-bytes gs
+        all : Stored g g₂ 0 count gs
+        all = stored-then g g₁ 0 k (writePhases maxWires n w (2 ^ n)) (writeRows n rows) a g₂ count (subst (λ (x : List ℕ). Stored g₁ g₂ k count (writeRows n x)) same b)
 
-          accepted : Accepted n (take (gateBytes * count) g₂)
-          accepted =
-              record {
-                some = ready .some;
-                few = ready .few;
-                whole = rw (bytes, length-bytes gs) (omega arith);
-                short = rw (bytes, length-bytes gs) (omega (arith, wrote .short, longest n (ready .few)));
-                formed = rw front (wrote .formed);
-              }
+        bytes : take (gateBytes * count) g₂ ≡ bytesOf gs
+        bytes = stored-front g g₂ count gs all room
+
+        front : frontGates count g₂ ≡ gs
+        front = ap gatesOf bytes ∙ gates-of-bytes gs
+
+        accepted : Accepted n (take (gateBytes * count) g₂)
+        accepted =
+            record {
+              some = ready .some;
+              few = ready .few;
+              whole = rw (bytes, length-bytes gs) (omega arith);
+              short = rw (bytes, length-bytes gs) (omega (arith, wrote .short, longest n (ready .few)));
+              formed = rw front (wrote .formed);
+            }

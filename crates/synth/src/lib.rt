@@ -1,6 +1,8 @@
 // Writing a list of gates from weights and rows (document 01, "The new weights").
 // Public entry: `write`. Its promise is the record WriteList of specs/Entry; proofs/Laws says what the promise means.
-ghost use Rattle.synth.specs.Entry.{WriteList};
+ghost use lib.ListN.{length};
+ghost use Rattle.synth.specs.Entry.{WriteList, WroteBytes};
+ghost use Rattle.synth.specs.Faults.{Writable};
 
 pub mod faults;
 pub mod masks;
@@ -31,7 +33,16 @@ pub fn write(n: usize, weights: &[u8], rows: &[u8], gates: &mut [u8]) -> Written
             place: 0,
         };
     }
+    Written::Done {
+        count: write_sound(n, weights, rows, gates),
+    }
+}
+
+// The gates, and their number. Internal: the caller has found no fault. It is public for the trim, which has proved its weights and rows sound.
+pub fn write_sound(n: usize, weights: &[u8], rows: &[u8], gates: &mut [u8]) -> usize
+    requires { ⌜ Writable n (now weights) (now rows) (length (now gates)) ⌝ }
+    ensures { λ r. ⌜ WroteBytes n (now (weights .entry)) (now (rows .entry)) (now (gates .entry)) (now (gates .exit)) r ⌝ }
+{
     let phases = write_phases(gates, n, weights);
-    let count = write_rows(gates, phases, n, copied(rows));
-    Written::Done { count: count }
+    write_rows(gates, phases, n, copied(rows))
 }

@@ -69,7 +69,7 @@ fn trim_accepted(n: usize, gates: &[u8], out: &mut [u8], log: &mut [u8]) -> Coun
     let t = read_gates(n, gates);
     let w = t.weights;
     let rows = t.rows;
-    let first = odd_marks(n, w);
+    let first = odd_marks(w);
     let m = make_moves(n, first, log);
     let last = m.marks;
     let new = weights_for(n, w, last);

@@ -1,5 +1,5 @@
-// The tables that the trim works on, each by one call on local arrays. What is made once in a trim is made by a public entry, which cannot
-// refuse these arrays; what is made for each move, by the functions behind the entries, which judge nothing again.
+// The tables that the trim works on, each by one call on local arrays: by the functions behind the entries, which judge nothing again,
+// since what they ask for is proved here.
 ghost use mathlib.Core.Path.{_≡_};
 ghost use Prim.Native.Nat.{_≤_};
 ghost use lib.ListN.{length};
@@ -19,15 +19,16 @@ use circuit::limits::ROW_BYTES;
 use circuit::limits::WEIGHT_BYTES;
 use circuit::limits::Weight;
 use kernel::Offered;
-use synth::Written;
+use synth::write_sound;
+use weights::put_odd_set;
+use weights::rests::put_new_weights;
 
-// The odd set of sound weights.
-pub fn odd_marks(n: usize, w: [Weight; WEIGHT_BYTES]) -> [u8; WEIGHT_BYTES]
-    requires { ⌜ (1 ≤ n) × (n ≤ maxWires) × SoundWeights weightBytes n w ⌝ }
+// The odd set of weights.
+pub fn odd_marks(w: [Weight; WEIGHT_BYTES]) -> [u8; WEIGHT_BYTES]
     ensures { λ r. ⌜ r ≡ oddSet w ⌝ }
 {
     let mut marks = [0u8; WEIGHT_BYTES];
-    weights::odd_set(n, &w, &mut marks);
+    put_odd_set(&w, &mut marks);
     marks
 }
 
@@ -41,7 +42,7 @@ pub fn weights_for(
     ensures { λ r. ⌜ r ≡ newWeights weightBytes n w marks ⌝ }
 {
     let mut new = [0 as Weight; WEIGHT_BYTES];
-    weights::new_weights(n, &w, &marks, &mut new);
+    put_new_weights(n, &w, &marks, &mut new);
     new
 }
 
@@ -90,12 +91,5 @@ pub fn write_list(
     requires { ⌜ (1 ≤ n) × (n ≤ maxWires) × SoundWeights weightBytes n w × SoundRows maxWires n rows × (writeBytes ≤ length (now out)) ⌝ }
     ensures { λ r. ⌜ WroteBytes n w rows (now (out .entry)) (now (out .exit)) r ⌝ }
 {
-    let reply = synth::write(n, &w, &rows, out);
-    match reply {
-        Written::Done { count } => count,
-        Written::Refused {
-            number: _,
-            place: _,
-        } => 0,
-    }
+    write_sound(n, &w, &rows, out)
 }

@@ -75,7 +75,8 @@ pub fn new_weights(n: usize, weights: &[u8], marks: &[u8], out: &mut [u8]) -> Re
     Reply::Done
 }
 
-fn put_odd_set(weights: &[u8], marks: &mut [u8])
+// Internal: the caller lends as many marks as weights. It is public for the trim, which has proved its weights sound.
+pub fn put_odd_set(weights: &[u8], marks: &mut [u8])
     requires { ⌜ length (now weights) ≡ length (now marks) ⌝ }
     ensures { λ _. ⌜ now (marks .exit) ≡ oddSet (now (weights .entry)) ⌝ }
 {

@@ -10,15 +10,7 @@ read-gates-requires : tie.Need-read-gates-requires
 read-gates-requires c κs = let p = c .before .before .before .pre .0 in (p .few, p .formed)
 
 odd-marks-requires : tie.Need-odd-marks-requires
-odd-marks-requires c κs =
-    let t = c .before .before in
-    let a = t .before .before .before .before .args in
-    let p = t .before .before .before .before .pre in
-    let g = now (a .gates) in
-    let w = t .read-gates .result .weights in
-    let rows = t .read-gates .result .rows in
-    let reads = t .read-gates .ensures in
-    (p .0 .some, p .0 .few, sound-weights (a .n) g (p .0) w rows reads)
+odd-marks-requires c κs = search needs
 
 make-moves-requires : tie.Need-make-moves-requires
 make-moves-requires c κs =
