@@ -1,12 +1,12 @@
 -- The members of marks as a list, and back.
 use mathlib.Core.List.{List, [], _++_, _∷_}
-use mathlib.Core.Logic.{_≢_}
 use mathlib.Core.Path.{_∙_, _≡_, ap, refl, subst, sym}
-use Prim.Native.Nat.{_+_, _<_, ℕ}
+use Prim.Native.Nat.{_+_, _<_, suc, zero, ℕ}
+use native.Mathlib.Nat.{add-zero, le-refl}
 use native.Mathlib.Numerals.{add-one}
 use native.Mathlib.Omega.{arith}
 use lib.ListN.{getD, length, set, take}
-use lib.Seq.{ext-getD, length-take-le, take-suc-set}
+use lib.Seq.{ext-getD, length-take-le, take-set-le, take-suc-set}
 use Rattle.circuit.specs.Limits.{maxWires, weightBytes}
 use Rattle.circuit.specs.Sound.{SoundMarks, weight}
 use Rattle.gf2.proofs.Table.{getD-tabulate, length-tabulate}
@@ -24,12 +24,13 @@ module _ (marks : List ℕ) where
   unfolding listed
   gather-none list = refl
 
-  module _ (list : List ℕ) (count y : ℕ) (are : take count list ≡ listed y (weight marks)) where
-    pub gather-on : count < length list → weight marks y ≡ 1 → take (count + 1) (set list count y) ≡ listed (y + 1) (weight marks)
-    gather-on l e = rw (add-one count) (take-suc-set list count y l ∙ ap (λ (ys : List ℕ). ys ++ (y ∷ [])) are ∙ sym (listed-on y (weight marks) e))
-
-    pub gather-off : weight marks y < 2 → weight marks y ≢ 1 → take count list ≡ listed (y + 1) (weight marks)
-    gather-off b ne = are ∙ sym (listed-off y (weight marks) (omega arith))
+  -- y is put at the end of the list, which grows by its mark
+  pub gather-next : (list : List ℕ) (count y mark : ℕ) → take count list ≡ listed y (weight marks) → count < length list → weight marks y ≡ mark → mark < 2
+      → take (count + mark) (set list count y) ≡ listed (y + 1) (weight marks)
+  gather-next list count y zero are l e b = rw (add-zero count) (take-set-le count list count y (le-refl _) ∙ are ∙ sym (listed-off y (weight marks) e))
+  gather-next list count y (suc zero) are l e b =
+      rw (add-one count) (take-suc-set list count y l ∙ ap (λ (ys : List ℕ). ys ++ (y ∷ [])) are ∙ sym (listed-on y (weight marks) e))
+  gather-next list count y (suc (suc mark)) are l e b = absurd (omega arith)
 
 -- ---- the marks of the listed members are the marks
 

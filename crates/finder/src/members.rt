@@ -8,7 +8,8 @@ use circuit::limits::MAX_MEMBERS;
 use circuit::limits::Parity;
 use circuit::limits::WEIGHT_BYTES;
 
-// Lists the members in ascending order, and gives their number. Internal: the caller has found the marks sound.
+// Lists the members in ascending order, and gives their number. Each parity is put at the end of the list, and stays there where its mark
+// is 1: marks are hard to foresee, so a branch on each would cost more. Internal: the caller has found the marks sound.
 pub fn gather(marks: &[u8], list: &mut [Parity; WEIGHT_BYTES]) -> usize
     requires { ⌜ SoundMarks weightBytes maxWires (now marks) ⌝ }
     requires { ⌜ length (now list) ≡ weightBytes ⌝ }
@@ -17,12 +18,9 @@ pub fn gather(marks: &[u8], list: &mut [Parity; WEIGHT_BYTES]) -> usize
     let mut count: usize = 0;
     let mut p: usize = 0;
     while p < marks.len() {
-        let y = p;
+        list[count] = p as Parity;
+        count += marks[p] as usize;
         p += 1;
-        if marks[y] == 1 {
-            list[count] = y as Parity;
-            count += 1;
-        }
     }
     count
 }

@@ -8,7 +8,7 @@ use denote.Ref.{now}
 use Rattle.circuit.specs.Limits.{weightBytes}
 use Rattle.circuit.specs.Sound.{weight}
 use Rattle.moves.specs.Sets.{listed}
-use Rattle.finder.proofs.Listing.{gather-none, gather-off, gather-on}
+use Rattle.finder.proofs.Listing.{gather-next, gather-none}
 use Rattle.finder.proofs.members.gather.Statement.{statement}
 use Rattle.finder.proofs.members.gather.Tie as tie
 
@@ -21,38 +21,35 @@ abbrev μ-loop : tie.MeasureT-loop
 loop-holds : tie.Need-loop-holds Inv-loop μ-loop
 loop-holds c = (search needs, search needs, refl, gather-none (now (c .args .marks)) (now (c .args .list)))
 
-add-p : tie.Need-add-p Inv-loop μ-loop
-add-p c = search needs
-
-shared-slice-read-if1 : tie.Need-shared-slice-read-if1 Inv-loop μ-loop
-shared-slice-read-if1 c = search needs
-
 cast-list : tie.Need-cast-list Inv-loop μ-loop
 cast-list c = search needs
 
 element-write-list : tie.Need-element-write-list Inv-loop μ-loop
 element-write-list c = search needs
 
+shared-slice-read-count : tie.Need-shared-slice-read-count Inv-loop μ-loop
+shared-slice-read-count c = search needs
+
+cast-count : tie.Need-cast-count Inv-loop μ-loop
+cast-count c = omega (arith, c .before .before .before .pre .0 .bits (c .before .before .loop .p))
+
 add-count : tie.Need-add-count Inv-loop μ-loop
-add-count c = search needs
+add-count c =
+    let s = c .before .before .before in
+    omega (arith, s .pre .0 .long, s .pre .0 .bits (c .before .before .loop .p))
+
+add-p : tie.Need-add-p Inv-loop μ-loop
+add-p c = search needs
 
 loop-less : tie.Need-loop-less Inv-loop μ-loop
 loop-less c = search needs
 
 loop-again : tie.Need-loop-again Inv-loop μ-loop
 loop-again c =
-    let at = c .before .before .before .loop in
-    let s = c .before .before .before .before in
-    (search needs, search needs, simp length-set (at .inv .2), gather-on (now (s .args .marks)) (at .list) (at .count) (at .p) (at .inv .3) (omega (arith, s .pre .0 .long)) (c .if1 .taken))
-
-loop-less-2 : tie.Need-loop-less-2 Inv-loop μ-loop
-loop-less-2 c = search needs
-
-loop-again-2 : tie.Need-loop-again-2 Inv-loop μ-loop
-loop-again-2 c =
-    let at = c .before .before .before .loop in
-    let s = c .before .before .before .before in
-    (search needs, search needs, at .inv .2, gather-off (now (s .args .marks)) (at .list) (at .count) (at .p) (at .inv .3) (s .pre .0 .bits (at .p)) (c .if1 .left))
+    let at = c .before .before .loop in
+    let s = c .before .before .before in
+    let b = s .pre .0 .bits (at .p) in
+    (search needs, omega (arith, b), simp length-set (at .inv .2), gather-next (now (s .args .marks)) (at .list) (at .count) (at .p) _ (at .inv .3) (omega (arith, s .pre .0 .long)) refl b)
 
 returns : tie.Need-returns Inv-loop μ-loop
 returns c =
@@ -68,13 +65,12 @@ gather-spec =
     Inv-loop
     μ-loop
     loop-holds
-    add-p
-    shared-slice-read-if1
     cast-list
     element-write-list
+    shared-slice-read-count
+    cast-count
     add-count
+    add-p
     loop-less
     loop-again
-    loop-less-2
-    loop-again-2
     returns)
