@@ -70,33 +70,30 @@ fn random_weights_and_rows() {
     }
 }
 
-/// Weights that take two gates on every parity, and rows that take many CNOTs: the longest lists are within the limit.
-/// The first rows name all wires but the first, then all but the last: brought about column by column, they take all
-/// but one of n². From there the search goes on wherever lists get no shorter.
+/// Rows that take every CNOT that rows can take, found backwards from rows that are in place: each row brings its own
+/// wire in and all others out, but the last, which cannot lack its own wire.
+fn costliest_rows(n: usize) -> Rows {
+    let mut rows = same_wires(n);
+    for own in (0..n).rev() {
+        let others = ((1u16 << n) - 1) as u8 ^ 1 << own;
+        rows.iter_mut().filter(|row| **row >> own & 1 == 1).for_each(|row| *row ^= others);
+        if own + 1 < n {
+            rows.iter_mut().filter(|row| **row >> (own + 1) & 1 == 1).for_each(|row| *row ^= 1 << own);
+        }
+    }
+    rows
+}
+
+/// Weights that take two gates on every parity, and the costliest rows: one gate less than document 01's limit, which
+/// leaves room for n gates in the last row too.
 #[test]
 fn the_longest_lists() {
     let mut random = Random::new(244);
     for n in 2..=8 {
         let mut table = [0; 256];
         table[1..1 << n].iter_mut().for_each(|weight| *weight = random.one_of(&[3, 5]));
-        let mut longest = same_wires(n);
-        longest[0] = ((1u16 << n) - 2) as u8;
-        longest[n - 1] = (1 << (n - 1)) - 1;
-        let mut most = 0;
-        for round in 0..60 {
-            let mut wanted = longest;
-            let (a, b) = (random.below(n), random.below(n));
-            if round > 0 && a != b {
-                wanted[a] ^= wanted[b];
-            }
-            let list = write(n, &table, &wanted, 6336, &mut random).expect("sound weights and rows");
-            let gates = list.len() / GATE_BYTES;
-            if gates >= most {
-                (most, longest) = (gates, wanted);
-            }
-        }
-        assert!(most <= most_written(n), "{most} gates on {n} wires, rows {longest:?}");
-        assert!(most >= 2 * ((1 << n) - 1), "two gates at least for each parity, n = {n}");
+        let list = write(n, &table, &costliest_rows(n), 6336, &mut random).expect("sound weights and rows");
+        assert_eq!(list.len() / GATE_BYTES + 1, most_written(n), "n = {n}");
     }
 }
 
