@@ -1,6 +1,6 @@
 -- The page to read: what the promise of `answer` means.
 use mathlib.Core.Bool.{Bool, false, true}
-use mathlib.Core.List.{List, [], _∷_}
+use mathlib.Core.List.{List, [], _++_, _∷_}
 use mathlib.Core.Logic.{inl, inr}
 use mathlib.Core.Path.{_∙_, _≡_, ap, subst, sym}
 use Prim.Native.Nat.{_+_, _<_, _≤_, ℕ}
@@ -11,17 +11,22 @@ use lib.Dec.{ltb}
 use lib.ListN.{drop, length, length-append, take}
 use lib.Seq.{drop-append-seam, take-append-seam}
 use borrow.Author.Tests.{le-ltb, lt-ltb}
-use Rattle.circuit.proofs.GateKinds.{t-is-odd}
+use Rattle.circuit.proofs.GateKinds.{kind-above, t-is-odd}
 use Rattle.circuit.proofs.Laws.{fault-is-first, odd-set-no-larger}
-use Rattle.circuit.specs.Faults.{AllWellFormed, Has, KindHas, firstFault, gateAt, lentOutput, sameWire}
-use Rattle.circuit.specs.Gate.{Gate, gate, gatesOf, kindOf, tGates}
+use Rattle.circuit.specs.Faults.{AllWellFormed, Has, KindHas, KindWellFormed, WellFormed, firstFault, gateAt, lentOutput, sameWire}
+use Rattle.circuit.specs.Gate.{Gate, bytesOf, gate, gatesOf, kindOf, tGates}
 use Rattle.circuit.specs.Limits.{maxGates, maxWires}
 use Rattle.circuit.specs.declared.Reply.the-variants as reply
 use Rattle.circuit.specs.declared.gates.Kind.{Kind}
 use Rattle.circuit.specs.declared.gates.Kind.the-variants.{Cnot, Phase, Unknown}
-use Rattle.text.proofs.TextLaws.{first-bytes-decide}
+use Rattle.synth.proofs.GateBytes.{gates-of-bytes, length-bytes}
+use Rattle.synth.proofs.WriteWays.{longest}
+use Rattle.text.proofs.ReadsWritten.{bytes-more}
+use Rattle.text.proofs.TextLaws.{circuit-reads-back, first-bytes-decide}
+use Rattle.text.proofs.WrittenReads.{AllBytes}
 use Rattle.text.specs.Limits.{replyBytes, textBytes}
-use Rattle.text.specs.Text.{Sayable, Text, readText}
+use Rattle.text.specs.Text.{Sayable, Text, circuit, readText}
+use Rattle.text.specs.Written.{gateLines, wiresLine}
 use Rattle.answer.proofs.AnswerWays.{gates-in}
 use Rattle.answer.specs.Entry.{AnswerText, Outcome, Writes-printed}
 use Rattle.answer.specs.Printed.{Prints, PrintsTrim}
@@ -117,3 +122,38 @@ module _ (n : ℕ) (list : List ℕ) (said : Sayable n list) where
 
       of-gate : (g : Gate) → Has n number g → number ≤ sameWire
       of-gate (gate kind a b) h = of-kind (kindOf kind) a b h
+
+-- ---- what is printed is a circuit again
+
+-- the three numbers of a well-formed gate are bytes
+gate-bytes : (n : ℕ) → n ≤ maxWires → (kind a b : ℕ) → WellFormed n (gate kind a b) → (kind < 256) × (a < 256) × (b < 256)
+gate-bytes n h kind a b w = go (decLt 6 kind)
+  where
+    wires : (k : Kind) → KindWellFormed n k a b → (a < 256) × (b < 256)
+    wires Cnot f = (omega (arith, f .0), omega (arith, f .1))
+    wires (Phase v) f = (omega (arith, f .0), omega (arith, f .1))
+    wires Unknown f = absurd f
+
+    go : Dec (6 < kind) → (kind < 256) × (a < 256) × (b < 256)
+    go (yes l) = absurd (subst (λ (k : Kind). KindWellFormed n k a b) (kind-above kind l) w)
+    go (no l) = let f = wires (kindOf kind) w in (omega arith, f .0, f .1)
+
+written-bytes : (n : ℕ) → n ≤ maxWires → (gs : List Gate) → AllWellFormed n gs → AllBytes (bytesOf gs)
+unfolding bytesOf
+written-bytes n h [] f = λ i. omega arith
+written-bytes n h (gate kind a b ∷ gs) f = bytes-more kind a b (bytesOf gs) (gate-bytes n h kind a b (f .0)) (written-bytes n h gs (f .1))
+
+-- the lines printed, but for that of the counts, are the text of D
+pub printed-reads-back : (n : ℕ) (list bytes : List ℕ) → Sayable n list → (p : PrintsTrim n (gatesOf list) bytes)
+    → readText (wiresLine n ++ gateLines (p .D)) ≡ circuit n (bytesOf (p .D))
+printed-reads-back n list bytes said p =
+    let D = p .D in
+    let sayable : Sayable n (bytesOf D) =
+    record {
+      some = said .some;
+      few = said .few;
+      whole = rw (length-bytes D) (omega arith);
+      short = rw (length-bytes D) (omega (arith, p .written .short, longest n (said .few)));
+      byte = written-bytes n (said .few) D (p .written .formed);
+    } in
+    ap (λ (gs : List Gate). readText (wiresLine n ++ gateLines gs)) (sym (gates-of-bytes D)) ∙ circuit-reads-back n (bytesOf D) sayable

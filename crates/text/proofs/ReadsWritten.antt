@@ -95,7 +95,7 @@ record Spells (r : ℕ) (t bytes : List ℕ) : Type 0 where
   short : length bytes ≤ gateBytes * r
   byte : AllBytes bytes
 
-bytes-more : (kind a b : ℕ) (bytes : List ℕ) → (kind < 256) × (a < 256) × (b < 256) → AllBytes bytes → AllBytes (kind ∷ a ∷ b ∷ bytes)
+pub bytes-more : (kind a b : ℕ) (bytes : List ℕ) → (kind < 256) × (a < 256) × (b < 256) → AllBytes bytes → AllBytes (kind ∷ a ∷ b ∷ bytes)
 bytes-more kind a b bytes h f zero = h .0
 bytes-more kind a b bytes h f (suc zero) = h .1
 bytes-more kind a b bytes h f (suc (suc zero)) = h .2
