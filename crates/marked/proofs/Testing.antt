@@ -58,7 +58,8 @@ c-all n w d t i j k h g f =
 
 unfoldable pub holds : Case → Bool
 holds (reads n gs es rows t odd) =
-    sameBytes (read maxWires n gs .weights) (weightsWith es) && (sameBytes (read maxWires n gs .rows) (rowsWith rows) && (eqb (tGates gs) t && eqb (members (oddSet (read maxWires n gs .weights))) odd))
+    sameBytes (read maxWires n gs .weights) (weightsWith es) &&
+    (sameBytes (read maxWires n gs .rows) (rowsWith rows) && (eqb (tGates gs) t && eqb (members (oddSet (read maxWires n gs .weights))) odd))
 holds (refuses n gs number place) = isRefusal (firstFault n 0 gs) number place
 holds (coefficients n es a b d) = allL n (weightsWith es) a && (allQ n (weightsWith es) b && allC n (weightsWith es) d)
 holds (leaves n es z Y left) = isLegal maxMembers n (weightsWith es) z Y && sameBytes (carryOut (weightsWith es) z Y) (weightsWith left)

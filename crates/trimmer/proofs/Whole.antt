@@ -57,7 +57,10 @@ module _ (n : ℕ) (fit : n ≤ maxWires) (C : List Gate) (fC : AllWellFormed n 
   moves-afford = omega (arith, replays-shrinks weightBytes n maxMembers (limits-suffice n fit .0) (oddSetOf n C) (logged moveBytes log k) marks first replayed, logged-length moveBytes k log)
 
   same : SameSignature n marks (weightsOf n C)
-  same = signature-trans n marks (oddSetOf n C) (weightsOf n C) (replays-signature weightBytes n maxMembers (limits-suffice n fit .0) (oddSetOf n C) (logged moveBytes log k) marks first replayed) (odd-set-has-signature n (weightsOf n C))
+  same =
+      signature-trans n marks (oddSetOf n C) (weightsOf n C)
+      (replays-signature weightBytes n maxMembers (limits-suffice n fit .0) (oddSetOf n C) (logged moveBytes log k) marks first replayed)
+      (odd-set-has-signature n (weightsOf n C))
 
   module _ (none : (z : ℕ) (Y : List ℕ) → Legal maxMembers n marks z Y → ⊥) (D : List Gate) (fD : AllWellFormed n D)
       (wD : weightsOf n D ≡ newWeights weightBytes n (weightsOf n C) marks) (rD : read maxWires n D .rows ≡ read maxWires n C .rows)

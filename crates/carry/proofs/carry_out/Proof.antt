@@ -63,7 +63,8 @@ returns-3 c =
     let f = m .before .before .before in
     let a = f .before .before .before .before .args in
     let y = c .before .before .before .set-of in
-    carried-out (a .n) (now (a .marks)) (now (a .bytes)) (f .carry-fault .result) (f .carry-fault .ensures) (omega arith) (m .is-move .result) (m .is-move .ensures) (c .before .before .before .before .before .before .if2 .left)
+    carried-out (a .n) (now (a .marks)) (now (a .bytes)) (f .carry-fault .result) (f .carry-fault .ensures) (omega arith) (m .is-move .result)
+    (m .is-move .ensures) (c .before .before .before .before .before .before .if2 .left)
     (now (y .result)) (c .before .before .carry .last .0) (y .ensures) (c .before .before .carry .ensures)
 
 pub carry-out-spec : {M : Type 1} → statement M

@@ -30,7 +30,8 @@ shl-result c = search needs
 returns-2 : tie.Need-returns-2
 returns-2 c =
     let a = c .before .before .before .args in
-    column-with (a .z) (a .t) (a .y) (c .before .product2 .result) (c .place .result) (c .before .before .before .pre .1) (c .before .before .if1 .left) (c .before .product2 .ensures) (c .place .ensures .0) (c .place .ensures .1)
+    column-with (a .z) (a .t) (a .y) (c .before .product2 .result) (c .place .result) (c .before .before .before .pre .1) (c .before .before .if1 .left)
+    (c .before .product2 .ensures) (c .place .ensures .0) (c .place .ensures .1)
 
 pub column-spec : {M : Type 1} → statement M
 column-spec =

@@ -33,7 +33,8 @@ returns : tie.Need-returns Inv-loop μ-loop
 returns c =
     let a = c .before .before .before .before .before .args in
     let at = c .before .before .before .before .loop in
-    stops (now (a .vec)) (now (a .mask)) (c .before .before .before .before .before .pre .0) (at .rest) (c .before .before .leading .result) (c .before .before .leading .ensures) (a .v) (at .m) (c .if1 .taken) (at .inv .1)
+    stops (now (a .vec)) (now (a .mask)) (c .before .before .before .before .before .pre .0) (at .rest) (c .before .before .leading .result)
+    (c .before .before .leading .ensures) (a .v) (at .m) (c .if1 .taken) (at .inv .1)
 
 mul-rest : tie.Need-mul-rest Inv-loop μ-loop
 mul-rest c = search needs
@@ -51,7 +52,8 @@ loop-less : tie.Need-loop-less Inv-loop μ-loop
 loop-less c =
     let a = c .before .before .before .before .before .before .before .args in
     let at = c .before .before .before .before .before .before .loop in
-    falls (now (a .vec)) (now (a .mask)) (c .before .before .before .before .before .before .before .pre .0) (at .rest) (c .before .before .before .before .leading .result) (c .before .before .before .before .leading .ensures) (c .before .before .if1 .left)
+    falls (now (a .vec)) (now (a .mask)) (c .before .before .before .before .before .before .before .pre .0) (at .rest)
+    (c .before .before .before .before .leading .result) (c .before .before .before .before .leading .ensures) (c .before .before .if1 .left)
 
 loop-again : tie.Need-loop-again Inv-loop μ-loop
 loop-again c =

@@ -47,7 +47,8 @@ returns-2 c =
     let t = c .before .before .before .before .before .before .before .before .marks-fault in
     let f = c .before .before .before .before .before .before .before .call-fault in
     let s = c .before .before .before .before .search in
-    find-found (a .n) (now (a .marks)) (now (a .forty)) (f .result) (w .result) (t .result) (w .ensures) (t .ensures) (f .ensures) (omega (arith, c .before .before .before .before .before .before .if1 .left)) (s .last .1 .0) (rw (c .enum-told .given .1) at (s .ensures))
+    find-found (a .n) (now (a .marks)) (now (a .forty)) (f .result) (w .result) (t .result) (w .ensures) (t .ensures) (f .ensures)
+    (omega (arith, c .before .before .before .before .before .before .if1 .left)) (s .last .1 .0) (rw (c .enum-told .given .1) at (s .ensures))
 
 same-length-2 : tie.Need-same-length-2
 same-length-2 c = search needs
@@ -59,7 +60,8 @@ returns-3 c =
     let t = c .before .before .before .before .before .before .before .before .marks-fault in
     let f = c .before .before .before .before .before .before .before .call-fault in
     let s = c .before .before .before .before .search in
-    find-nothing (a .n) (now (a .marks)) (now (a .forty)) (f .result) (w .result) (t .result) (w .ensures) (t .ensures) (f .ensures) (omega (arith, c .before .before .before .before .before .before .if1 .left)) (s .last .1 .0) (rw (c .enum-told2 .given .1) at (s .ensures))
+    find-nothing (a .n) (now (a .marks)) (now (a .forty)) (f .result) (w .result) (t .result) (w .ensures) (t .ensures) (f .ensures)
+    (omega (arith, c .before .before .before .before .before .before .if1 .left)) (s .last .1 .0) (rw (c .enum-told2 .given .1) at (s .ensures))
 
 pub find-spec : {M : Type 1} → statement M
 find-spec =

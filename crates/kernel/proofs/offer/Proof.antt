@@ -34,8 +34,11 @@ returns : tie.Need-returns
 returns c =
     let s = c .before .before .before .before .before .before .before .before .before .before .before .before .before .before in
     let l = c .before .before .before .before .before .before .before .build .last .1 .1 .1 .1 .1 .1 in
-    offered (now (s .args .ys)) (s .pre .1 .0) (s .args .a) (s .args .b) (c .before .before .before .before .before .before .before .before .before .before .before .lowest .result) (s .pre .1 .1 .0 .0) (s .pre .1 .1 .0 .1) (s .pre .1 .1 .0 .2) (c .before .before .before .before .before .before .before .before .before .before .before .lowest .ensures .0) (l .0) (l .1 .0)
-    (l .1 .1 .0) (c .before .before .before .before .before .before .before .build .ensures) (now (s .args .bytes)) (c .before .before .both .last .1 .1 .1 .1 .1 .1 .1 .1 .0) (c .before .before .both .result) (c .before .before .both .ensures)
+    offered (now (s .args .ys)) (s .pre .1 .0) (s .args .a) (s .args .b)
+    (c .before .before .before .before .before .before .before .before .before .before .before .lowest .result) (s .pre .1 .1 .0 .0) (s .pre .1 .1 .0 .1)
+    (s .pre .1 .1 .0 .2) (c .before .before .before .before .before .before .before .before .before .before .before .lowest .ensures .0) (l .0) (l .1 .0)
+    (l .1 .1 .0) (c .before .before .before .before .before .before .before .build .ensures) (now (s .args .bytes))
+    (c .before .before .both .last .1 .1 .1 .1 .1 .1 .1 .1 .0) (c .before .before .both .result) (c .before .before .both .ensures)
 
 pub offer-spec : {M : Type 1} → statement M
 offer-spec = tie.close (tie.spec lowest-requires build-requires both-requires same-length returns)

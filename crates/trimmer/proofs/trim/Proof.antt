@@ -26,7 +26,9 @@ returns-2 c =
     let f = c .before .before .before .before .before in
     let a = f .before .before .before .before .args in
     let k = c .before .before .before .first-fault in
-    trim-gate-refused (a .n) (now (a .gates)) (now (a .out)) (now (a .log)) (f .trim-fault .result) (f .trim-fault .ensures) (omega (arith, c .before .before .before .before .if1 .left)) (k .result) (k .ensures) (c .before .found .given .0 .0) (c .before .found .given .0 .1 .0) (c .before .found .given .1)
+    trim-gate-refused (a .n) (now (a .gates)) (now (a .out)) (now (a .log)) (f .trim-fault .result) (f .trim-fault .ensures)
+    (omega (arith, c .before .before .before .before .if1 .left)) (k .result) (k .ensures) (c .before .found .given .0 .0) (c .before .found .given .0 .1 .0)
+    (c .before .found .given .1)
 
 enum-told : tie.Need-enum-told
 enum-told c = search needs
@@ -36,7 +38,8 @@ trim-accepted-requires c κs =
     let f = c .before .before .before .before .before .before in
     let a = f .before .before .before .before .args in
     let k = c .before .before .before .before .first-fault in
-    may-trim (a .n) (now (a .gates)) (now (a .out)) (now (a .log)) (f .trim-fault .result) (f .trim-fault .ensures) (omega (arith, c .before .before .before .before .before .if1 .left)) (k .result) (k .ensures) (c .before .before .enum-told .given .1)
+    may-trim (a .n) (now (a .gates)) (now (a .out)) (now (a .log)) (f .trim-fault .result) (f .trim-fault .ensures)
+    (omega (arith, c .before .before .before .before .before .if1 .left)) (k .result) (k .ensures) (c .before .before .enum-told .given .1)
 
 same-length : tie.Need-same-length
 same-length c = search needs
@@ -49,7 +52,10 @@ returns-3 c =
     let f = c .before .before .before .before .before .before .before .before .before .before .before in
     let a = f .before .before .before .before .args in
     let k = c .before .before .before .before .before .before .before .before .before .first-fault in
-    trim-done (a .n) (now (a .gates)) (now (a .out)) (now (a .log)) (f .trim-fault .result) (f .trim-fault .ensures) (omega (arith, c .before .before .before .before .before .before .before .before .before .before .if1 .left)) (k .result) (k .ensures) (c .before .before .before .before .before .before .before .enum-told .given .1) _ _ (c .before .before .before .before .trim-accepted .result) (c .before .before .before .before .trim-accepted .ensures)
+    trim-done (a .n) (now (a .gates)) (now (a .out)) (now (a .log)) (f .trim-fault .result) (f .trim-fault .ensures)
+    (omega (arith, c .before .before .before .before .before .before .before .before .before .before .if1 .left)) (k .result) (k .ensures)
+    (c .before .before .before .before .before .before .before .enum-told .given .1) _ _ (c .before .before .before .before .trim-accepted .result)
+    (c .before .before .before .before .trim-accepted .ensures)
 
 pub trim-spec : {M : Type 1} → statement M
 trim-spec =

@@ -84,7 +84,8 @@ returns c =
     let m = c .before .before .before .before .before .before .before .before .before .before .before .before .before .make-moves in
     let v = c .before .before .before .before .before .before .before .before .before .weights-for in
     let d = c .before .before .before .before .before .before .before .write-list in
-    finish (a .n) g (p .0) w rows reads (o .result) (o .ensures) (now (a .log)) _ (m .result .count) (m .result .marks) (m .ensures) (v .result) (v .ensures) (now (a .out)) _ (d .result) (d .ensures) _
+    finish (a .n) g (p .0) w rows reads (o .result) (o .ensures) (now (a .log)) _ (m .result .count) (m .result .marks) (m .ensures) (v .result) (v .ensures)
+    (now (a .out)) _ (d .result) (d .ensures) _
     (c .before .before .before .before .t-gates .ensures) (c .before .before .members-of .ensures) (c .members-of2 .ensures) refl refl
 
 pub trim-accepted-spec : {M : Type 1} → statement M

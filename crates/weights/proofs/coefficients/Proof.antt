@@ -36,7 +36,8 @@ put-q-requires : tie.Need-put-q-requires
 put-q-requires c κs =
     let f = c .before .before .before .before .before .before .call-fault in
     let a = c .before .before .before .before .before .before .before .before .before .before .before .before .before .args in
-    let e = f .ensures ∙ ap₂ (callFault (a .n)) (c .before .before .before .before .before .before .before .before .tables-fault .ensures) (c .before .before .before .before .before .before .before .weights-fault .ensures) in
+    let e = f .ensures ∙ ap₂ (callFault (a .n)) (c .before .before .before .before .before .before .before .before .tables-fault .ensures)
+    (c .before .before .before .before .before .before .before .weights-fault .ensures) in
     let t = tables-fit (a .n) (now (a .weights)) (now (a .l)) (now (a .q)) (now (a .c)) (f .result) e (omega (arith, c .before .before .before .before .before .if1 .left)) in
     (t .0, t .2)
 
@@ -44,8 +45,11 @@ put-c-requires : tie.Need-put-c-requires
 put-c-requires c κs =
     let f = c .before .before .before .before .before .before .before .before .before .before .call-fault in
     let a = c .before .before .before .before .before .before .before .before .before .before .before .before .before .before .before .before .before .args in
-    let e = f .ensures ∙ ap₂ (callFault (a .n)) (c .before .before .before .before .before .before .before .before .before .before .before .before .tables-fault .ensures) (c .before .before .before .before .before .before .before .before .before .before .before .weights-fault .ensures) in
-    let t = tables-fit (a .n) (now (a .weights)) (now (a .l)) (now (a .q)) (now (a .c)) (f .result) e (omega (arith, c .before .before .before .before .before .before .before .before .before .if1 .left)) in
+    let e = f .ensures ∙ ap₂ (callFault (a .n))
+    (c .before .before .before .before .before .before .before .before .before .before .before .before .tables-fault .ensures)
+    (c .before .before .before .before .before .before .before .before .before .before .before .weights-fault .ensures) in
+    let t = tables-fit (a .n) (now (a .weights)) (now (a .l)) (now (a .q)) (now (a .c)) (f .result) e
+    (omega (arith, c .before .before .before .before .before .before .before .before .before .if1 .left)) in
     (t .0, t .3)
 
 same-length : tie.Need-same-length
@@ -61,8 +65,13 @@ returns-2 : tie.Need-returns-2
 returns-2 c =
     let f = c .before .before .before .before .before .before .before .before .before .before .before .before .before .call-fault in
     let a = c .before .before .before .before .before .before .before .before .before .before .before .before .before .before .before .before .before .before .before .before .args in
-    let e = f .ensures ∙ ap₂ (callFault (a .n)) (c .before .before .before .before .before .before .before .before .before .before .before .before .before .before .before .tables-fault .ensures) (c .before .before .before .before .before .before .before .before .before .before .before .before .before .before .weights-fault .ensures) in
-    tables-done (a .n) (now (a .weights)) (now (a .l)) (now (a .q)) (now (a .c)) (f .result) e (omega (arith, c .before .before .before .before .before .before .before .before .before .before .before .before .if1 .left)) _ _ _ (c .before .before .before .before .before .before .before .before .before .before .put-l .ensures) (c .before .before .before .before .before .before .put-q .ensures) (c .before .before .put-c .ensures)
+    let e = f .ensures ∙ ap₂ (callFault (a .n))
+    (c .before .before .before .before .before .before .before .before .before .before .before .before .before .before .before .tables-fault .ensures)
+    (c .before .before .before .before .before .before .before .before .before .before .before .before .before .before .weights-fault .ensures) in
+    tables-done (a .n) (now (a .weights)) (now (a .l)) (now (a .q)) (now (a .c)) (f .result) e
+    (omega (arith, c .before .before .before .before .before .before .before .before .before .before .before .before .if1 .left)) _ _ _
+    (c .before .before .before .before .before .before .before .before .before .before .put-l .ensures)
+    (c .before .before .before .before .before .before .put-q .ensures) (c .before .before .put-c .ensures)
 
 pub coefficients-spec : {M : Type 1} → statement M
 coefficients-spec =

@@ -47,7 +47,9 @@ returns-2 : tie.Need-returns-2
 returns-2 c =
     let f = c .before .before .before .before .before .call-fault in
     let a = c .before .before .before .before .before .before .before .before .before .before .before .before .before .args in
-    let t = c .before .before .before .before .before .before .or-else .ensures ∙ ap₂ orElse (c .before .before .before .before .before .before .before .before .weights-fault .ensures) (c .before .before .before .before .before .before .before .marks-fault .ensures) in
+    let t = c .before .before .before .before .before .before .or-else .ensures ∙ ap₂ orElse
+    (c .before .before .before .before .before .before .before .before .weights-fault .ensures)
+    (c .before .before .before .before .before .before .before .marks-fault .ensures) in
     let e = f .ensures ∙ ap₂ (callFault (a .n)) (c .before .before .before .before .before .before .before .before .before .lent-fault .ensures) t in
     new-done (a .n) (now (a .weights)) (now (a .marks)) (now (a .out)) (f .result) e (omega (arith, c .before .before .before .before .if1 .left)) _ (c .before .before .put-new-weights .ensures)
 

@@ -38,7 +38,8 @@ returns-2 : tie.Need-returns-2
 returns-2 c =
     let f = c .before .before .before .before .before .call-fault in
     let a = c .before .before .before .before .before .before .before .before .before .before .args in
-    let e = f .ensures ∙ ap₂ (callFault (a .n)) (c .before .before .before .before .before .before .before .lent-fault .ensures) (c .before .before .before .before .before .before .weights-fault .ensures) in
+    let e = f .ensures ∙ ap₂ (callFault (a .n)) (c .before .before .before .before .before .before .before .lent-fault .ensures)
+    (c .before .before .before .before .before .before .weights-fault .ensures) in
     odd-done (a .n) (now (a .weights)) (now (a .marks)) (f .result) e (omega arith) _ (c .before .before .put-odd-set .ensures)
 
 pub odd-set-spec : {M : Type 1} → statement M

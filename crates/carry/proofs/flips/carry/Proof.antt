@@ -22,7 +22,8 @@ same-length c = simp length-set (c .before .before .turn-if-odd .kept .0 ∙ c .
 returns : tie.Need-returns
 returns c =
     let a = c .before .before .before .before .before .before .before .before .before .before .args in
-    carried (now (a .marks)) (c .before .before .before .before .before .before .turn-pairs .last .0) (c .before .before .turn-if-odd .last .0) (a .z) (now (a .ys)) (c .before .before .before .before .before .before .turn-pairs .ensures) (c .before .before .turn-if-odd .ensures)
+    carried (now (a .marks)) (c .before .before .before .before .before .before .turn-pairs .last .0) (c .before .before .turn-if-odd .last .0) (a .z)
+    (now (a .ys)) (c .before .before .before .before .before .before .turn-pairs .ensures) (c .before .before .turn-if-odd .ensures)
 
 pub carry-spec : {M : Type 1} → statement M
 carry-spec =

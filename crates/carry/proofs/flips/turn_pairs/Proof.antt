@@ -42,7 +42,8 @@ loop-again c =
     let v = c .before .before .turn2 in (
       search needs,
       v .kept .0 ∙ w .kept .0 ∙ at .inv .1,
-      pairs-next (at .marks) (w .last .0) (v .last .0) (flipPairs (now (a .marks)) (a .z) (now (a .ys))) (a .z) (now (a .ys)) (at .i) (c .before .before .before .before .before .before .before .before .before .loop-test .taken) (w .ensures) (v .ensures) (at .inv .2),
+      pairs-next (at .marks) (w .last .0) (v .last .0) (flipPairs (now (a .marks)) (a .z) (now (a .ys))) (a .z) (now (a .ys)) (at .i)
+          (c .before .before .before .before .before .before .before .before .before .loop-test .taken) (w .ensures) (v .ensures) (at .inv .2),
     )
 
 same-length : tie.Need-same-length Inv-loop μ-loop

@@ -25,7 +25,8 @@ set-of-requires : tie.Need-set-of-requires
 set-of-requires c κs = granted (c .before .before .has-form .result) (c .before .before .has-form .ensures) (c .before .if1 .left)
 
 is-legal-requires : tie.Need-is-legal-requires
-is-legal-requires c κs = (c .before .before .before .before .before .before .pre, rw (c .set-of .ensures) (set-few maxMembers (now (c .before .before .before .before .before .before .args .bytes)) (granted (c .before .before .before .has-form .result) (c .before .before .before .has-form .ensures) (c .before .before .if1 .left))))
+is-legal-requires c κs =
+    (c .before .before .before .before .before .before .pre, rw (c .set-of .ensures) (set-few maxMembers (now (c .before .before .before .before .before .before .args .bytes)) (granted (c .before .before .before .has-form .result) (c .before .before .before .has-form .ensures) (c .before .before .if1 .left))))
 
 returns-2 : tie.Need-returns-2
 returns-2 c =

@@ -33,7 +33,8 @@ returns c =
 returns-2 : tie.Need-returns-2
 returns-2 c =
     let a = c .before .before .before .before .args in
-    by-kind (a .n) (a .kind) (a .a) (a .b) (Phase (c .before .enum-told2 .given .0 .0)) (c .phase-fault .result) (sym (c .before .enum-told2 .given .1) ∙ c .before .before .before .kind-of .ensures) (c .phase-fault .ensures)
+    by-kind (a .n) (a .kind) (a .a) (a .b) (Phase (c .before .enum-told2 .given .0 .0)) (c .phase-fault .result)
+    (sym (c .before .enum-told2 .given .1) ∙ c .before .before .before .kind-of .ensures) (c .phase-fault .ensures)
 
 returns-3 : tie.Need-returns-3
 returns-3 c =

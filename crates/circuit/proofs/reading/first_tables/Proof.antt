@@ -48,7 +48,8 @@ unfolding noWeights
 returns c =
     let at = c .before in
     let n = at .before .args .n in
-    ap (tables (noWeights maxWires)) (filled-all (at .loop .rows) (firstRows maxWires n) (at .loop .i) (omega (arith, length-first maxWires n)) (omega (arith, length-first maxWires n)) (at .loop .inv .2))
+    ap (tables (noWeights maxWires))
+    (filled-all (at .loop .rows) (firstRows maxWires n) (at .loop .i) (omega (arith, length-first maxWires n)) (omega (arith, length-first maxWires n)) (at .loop .inv .2))
 
 pub first-tables-spec : {M : Type 1} → statement M
 first-tables-spec =

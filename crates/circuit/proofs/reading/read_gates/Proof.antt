@@ -79,7 +79,8 @@ element-copy-out-t c =
     let at = c .before .before .before .before .before .before .before .before .before in
     let a = at .before .before .before .args in
     let g = now (a .gates) in
-    let f = cnot-wires maxWires (a .n) (at .before .before .before .pre .0) g (readBytes (a .n) g) (at .loop .g) (omega arith) (at .loop .t .weights) (at .loop .t .rows) (at .loop .inv .2) (sym (c .before .before .enum-told .given .1) ∙ c .before .before .before .before .before .before .kind-of .ensures) in
+    let f = cnot-wires maxWires (a .n) (at .before .before .before .pre .0) g (readBytes (a .n) g) (at .loop .g) (omega arith) (at .loop .t .weights)
+    (at .loop .t .rows) (at .loop .inv .2) (sym (c .before .before .enum-told .given .1) ∙ c .before .before .before .before .before .before .kind-of .ensures) in
     omega (arith, f .1, c .index-of2 .ensures .0)
 
 element-copy-out-t-2 : tie.Need-element-copy-out-t-2 Inv-loop μ-loop
@@ -87,7 +88,9 @@ element-copy-out-t-2 c =
     let at = c .before .before .before .before .before .before .before .before .before .before in
     let a = at .before .before .before .args in
     let g = now (a .gates) in
-    let f = cnot-wires maxWires (a .n) (at .before .before .before .pre .0) g (readBytes (a .n) g) (at .loop .g) (omega arith) (at .loop .t .weights) (at .loop .t .rows) (at .loop .inv .2) (sym (c .before .before .before .enum-told .given .1) ∙ c .before .before .before .before .before .before .before .kind-of .ensures) in
+    let f = cnot-wires maxWires (a .n) (at .before .before .before .pre .0) g (readBytes (a .n) g) (at .loop .g) (omega arith) (at .loop .t .weights)
+    (at .loop .t .rows) (at .loop .inv .2)
+    (sym (c .before .before .before .enum-told .given .1) ∙ c .before .before .before .before .before .before .before .kind-of .ensures) in
     omega (arith, f .0, c .before .before .index-of .ensures .0)
 
 element-write-t : tie.Need-element-write-t Inv-loop μ-loop
@@ -95,7 +98,9 @@ element-write-t c =
     let at = c .before .before .before .before .before .before .before .before .before .before .before in
     let a = at .before .before .before .args in
     let g = now (a .gates) in
-    let f = cnot-wires maxWires (a .n) (at .before .before .before .pre .0) g (readBytes (a .n) g) (at .loop .g) (omega arith) (at .loop .t .weights) (at .loop .t .rows) (at .loop .inv .2) (sym (c .before .before .before .before .enum-told .given .1) ∙ c .before .before .before .before .before .before .before .before .kind-of .ensures) in
+    let f = cnot-wires maxWires (a .n) (at .before .before .before .pre .0) g (readBytes (a .n) g) (at .loop .g) (omega arith) (at .loop .t .weights)
+    (at .loop .t .rows) (at .loop .inv .2)
+    (sym (c .before .before .before .before .enum-told .given .1) ∙ c .before .before .before .before .before .before .before .before .kind-of .ensures) in
     omega (arith, f .1, c .before .before .index-of2 .ensures .0)
 
 loop-less : tie.Need-loop-less Inv-loop μ-loop

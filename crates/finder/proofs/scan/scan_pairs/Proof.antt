@@ -66,7 +66,8 @@ loop-again c =
     let at = c .before .before .before .before .before .before .before .before .before .loop in
     let o = c .before .before .before .before .offer in
     let ys = now (c .before .before .before .before .before .before .before .before .before .before .before .before .before .before .args .ys) in
-    let t = pair-passed ys (c .before .before .before .before .before .before .before .before .before .before .before .pairs .a) (at .b) (at .bytes) (o .last .1 .1 .1 .1 .0) (o .result) (c .enum-told2 .given .1) (o .ensures) in
+    let t = pair-passed ys (c .before .before .before .before .before .before .before .before .before .before .before .pairs .a) (at .b) (at .bytes)
+    (o .last .1 .1 .1 .1 .0) (o .result) (c .enum-told2 .given .1) (o .ensures) in
     (at .inv .0, t .0 ∙ at .inv .1, omega arith, omega arith, below-more _ _ (at .inv .4) (λ g. t .1))
 
 add-a : tie.Need-add-a Inv-loop μ-loop Inv-pairs μ-pairs
@@ -91,7 +92,9 @@ returns c =
     rw (at .inv .0) (at .inv .1, all-passed (now (s .args .ys)) (s .pre .1 .0) (λ i l. at .inv .3 i (omega arith)))
 
 same-length-2 : tie.Need-same-length-2 Inv-loop μ-loop Inv-pairs μ-pairs
-same-length-2 c = c .before .before .before .before .offer .kept .1 .1 .1 .1 .0 ∙ ap length (c .before .before .before .before .before .before .before .before .before .loop .inv .1 ∙ c .before .before .before .before .before .before .before .before .before .before .before .pairs .inv .1)
+same-length-2 c =
+    c .before .before .before .before .offer .kept .1 .1 .1 .1 .0 ∙ ap length
+    (c .before .before .before .before .before .before .before .before .before .loop .inv .1 ∙ c .before .before .before .before .before .before .before .before .before .before .before .pairs .inv .1)
 
 returns-2 : tie.Need-returns-2 Inv-loop μ-loop Inv-pairs μ-pairs
 returns-2 c =

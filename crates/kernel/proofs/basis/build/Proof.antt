@@ -52,7 +52,8 @@ loop-again c =
     let κ = kappa maxWires (a .z) (a .t) in
     let l = c .insert .last .1 .1 in (
       search needs,
-      rest-more productBits κ (now (a .ys)) (a .a) (a .b) (at .i) (at .vec) (at .mask) (at .member) (at .inv .1) (l .0) (l .1 .0) (l .1 .1 .0) (c .before .before .before .before .before .before .if1 .taken) (c .before .before .before .before .before .if2 .taken)
+      rest-more productBits κ (now (a .ys)) (a .a) (a .b) (at .i) (at .vec) (at .mask) (at .member) (at .inv .1) (l .0) (l .1 .0) (l .1 .1 .0)
+          (c .before .before .before .before .before .before .if1 .taken) (c .before .before .before .before .before .if2 .taken)
           (c .insert .ensures κ (sym (k .ensures .0)) (at .inv .1 .echelon)),
     )
 

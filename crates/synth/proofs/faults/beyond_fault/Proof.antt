@@ -26,7 +26,10 @@ row-most-requires : tie.Need-row-most-requires Inv-loop μ-loop
 row-most-requires c κs = search needs
 
 returns : tie.Need-returns Inv-loop μ-loop
-returns c = let at = c .before .before .before .before in let a = at .before .before .args in row-bad (a .n) (at .loop .i) (now (a .rows)) (omega arith) (omega (arith, c .before .row-most .ensures)) ∙ at .loop .inv .1
+returns c =
+    let at = c .before .before .before .before in
+    let a = at .before .before .args in
+    row-bad (a .n) (at .loop .i) (now (a .rows)) (omega arith) (omega (arith, c .before .row-most .ensures)) ∙ at .loop .inv .1
 
 add-i : tie.Need-add-i Inv-loop μ-loop
 add-i c = search needs
@@ -35,7 +38,10 @@ loop-less : tie.Need-loop-less Inv-loop μ-loop
 loop-less c = search needs
 
 loop-again : tie.Need-loop-again Inv-loop μ-loop
-loop-again c = let at = c .before .before .before .before in let a = at .before .before .args in (search needs, row-good (a .n) (at .loop .i) (now (a .rows)) (omega arith) (omega (arith, c .before .row-most .ensures)) ∙ at .loop .inv .1)
+loop-again c =
+    let at = c .before .before .before .before in
+    let a = at .before .before .args in
+    (search needs, row-good (a .n) (at .loop .i) (now (a .rows)) (omega arith) (omega (arith, c .before .row-most .ensures)) ∙ at .loop .inv .1)
 
 returns-2 : tie.Need-returns-2 Inv-loop μ-loop
 returns-2 c = let at = c .before in let a = at .before .before .args in row-end (a .n) (at .loop .i) (now (a .rows)) (omega arith) ∙ at .loop .inv .1

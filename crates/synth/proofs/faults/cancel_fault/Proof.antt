@@ -38,7 +38,8 @@ returns c =
     let b = at .before in
     let a = b .args in
     let h = at .loop .inv .1 in
-    dependent-fault (a .n) (a .rows) (going-stops maxWires (a .n) (b .pre .0) (a .rows) (at .loop .r) (at .loop .masks) (h .0) (omega arith) (h .1) (rw (c .before .pivot-of .ensures) at (c .if1 .taken)))
+    dependent-fault (a .n) (a .rows)
+    (going-stops maxWires (a .n) (b .pre .0) (a .rows) (at .loop .r) (at .loop .masks) (h .0) (omega arith) (h .1) (rw (c .before .pivot-of .ensures) at (c .if1 .taken)))
 
 row-step-requires : tie.Need-row-step-requires Inv-loop μ-loop
 row-step-requires c κs = let at = c .before .before .before in let b = at .before in (omega (arith, b .pre .0), omega (arith, b .pre .0), at .loop .inv .1 .1 .wide)

@@ -26,7 +26,10 @@ shl-p : tie.Need-shl-p
 shl-p c = search needs
 
 recount-masks-requires-2 : tie.Need-recount-masks-requires-2
-recount-masks-requires-2 c κs = let a = c .before .before .args in let f = c .recount-masks in (search needs, ap length (f .ensures) ∙ length-recount (a .b) (c .before .lack-of .result) (a .t1) ∙ c .before .before .pre .2)
+recount-masks-requires-2 c κs =
+    let a = c .before .before .args in
+    let f = c .recount-masks in
+    (search needs, ap length (f .ensures) ∙ length-recount (a .b) (c .before .lack-of .result) (a .t1) ∙ c .before .before .pre .2)
 
 returns : tie.Need-returns
 returns c =

@@ -50,7 +50,9 @@ returns-2 c =
     let x = c .before .before .before .before .before .before .before .before .before .before .gather in
     let y = c .before .before .before .before .before .before .spell-out in
     let z = c .before .before .gather2 in
-    parity-stored (now (a .gates)) (a .k) (a .n) (a .p) (a .v) (omega (arith, c .before .before .before .before .before .before .before .before .before .before .before .before .if1 .left)) (b .pre .2) (omega arith) (b .pre .3) _ (x .result) (x .ensures) _ (y .result) (y .ensures) _ (z .result) (z .ensures)
+    parity-stored (now (a .gates)) (a .k) (a .n) (a .p) (a .v)
+    (omega (arith, c .before .before .before .before .before .before .before .before .before .before .before .before .if1 .left)) (b .pre .2) (omega arith)
+    (b .pre .3) _ (x .result) (x .ensures) _ (y .result) (y .ensures) _ (z .result) (z .ensures)
 
 pub write-parity-spec : {M : Type 1} → statement M
 write-parity-spec =

@@ -31,7 +31,8 @@ row-step-requires c κs =
     let b = at .before .before in
     let a = b .args in
     let p = c .pivot-of in
-    let l = pivot-inside (a .n) (at .loop .r) (a .rows) (at .loop .masks) (now (a .gates)) (at .loop .gates) (a .k) (at .loop .j) (b .pre .0) (b .pre .1) (omega arith) (at .loop .inv .1) (p .result) (p .ensures) in
+    let l = pivot-inside (a .n) (at .loop .r) (a .rows) (at .loop .masks) (now (a .gates)) (at .loop .gates) (a .k) (at .loop .j) (b .pre .0) (b .pre .1)
+    (omega arith) (at .loop .inv .1) (p .result) (p .ensures) in
     (omega (arith, b .pre .0), omega (arith, b .pre .0), at .loop .inv .1 .going .wide)
 
 cast-gather : tie.Need-cast-gather Inv-loop μ-loop

@@ -19,7 +19,8 @@ same-length c = search needs
 returns : tie.Need-returns
 returns c =
     let a = c .before .before .before .before .before .before .before .before .before .args in
-    stored-then (now (a .gates)) _ (a .k) (c .before .before .before .before .before .before .push .result) (gate (a .first) (a .t) 0 ∷ []) (gate (a .second) (a .t) 0 ∷ []) (c .before .before .before .before .before .before .push .ensures) _ _ (c .before .before .push2 .ensures)
+    stored-then (now (a .gates)) _ (a .k) (c .before .before .before .before .before .before .push .result) (gate (a .first) (a .t) 0 ∷ [])
+    (gate (a .second) (a .t) 0 ∷ []) (c .before .before .before .before .before .before .push .ensures) _ _ (c .before .before .push2 .ensures)
 
 pub push-two-spec : {M : Type 1} → statement M
 push-two-spec = tie.close (tie.spec push-requires push-requires-2 same-length returns)

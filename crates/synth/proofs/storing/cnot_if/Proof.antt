@@ -16,7 +16,9 @@ same-length : tie.Need-same-length
 same-length c = search needs
 
 returns-2 : tie.Need-returns-2
-returns-2 c = let a = c .before .before .before .before .before .before .args in rw (cnot-one (a .c) (a .i) (a .t) (omega (arith, c .before .before .before .before .if1 .left))) (c .before .before .push .ensures)
+returns-2 c =
+    let a = c .before .before .before .before .before .before .args in
+    rw (cnot-one (a .c) (a .i) (a .t) (omega (arith, c .before .before .before .before .if1 .left))) (c .before .before .push .ensures)
 
 pub cnot-if-spec : {M : Type 1} → statement M
 cnot-if-spec = tie.close (tie.spec returns push-requires same-length returns-2)

@@ -30,7 +30,11 @@ cast-cnot-if-2 : tie.Need-cast-cnot-if-2 Inv-loop μ-loop
 cast-cnot-if-2 c = search needs
 
 cnot-if-requires : tie.Need-cnot-if-requires Inv-loop μ-loop
-cnot-if-requires c κs = let at = c .before .before in let a = at .before .before .args in cnots-room (now (a .gates)) (at .loop .gates) (a .k) (at .loop .j) (a .q) (a .t) (at .loop .i) _ refl (at .loop .inv .1) (a .n) (omega arith) (at .before .before .pre .1)
+cnot-if-requires c κs =
+    let at = c .before .before in
+    let a = at .before .before .args in
+    cnots-room (now (a .gates)) (at .loop .gates) (a .k) (at .loop .j) (a .q) (a .t) (at .loop .i) _ refl (at .loop .inv .1) (a .n) (omega arith)
+    (at .before .before .pre .1)
 
 add-i : tie.Need-add-i Inv-loop μ-loop
 add-i c = search needs
@@ -39,7 +43,11 @@ loop-less : tie.Need-loop-less Inv-loop μ-loop
 loop-less c = search needs
 
 loop-again : tie.Need-loop-again Inv-loop μ-loop
-loop-again c = let at = c .before .before .before .before .before in let a = at .before .before .args in let u = c .before .before .cnot-if in (search needs, cnots-turn (now (a .gates)) (at .loop .gates) (a .k) (at .loop .j) (a .q) (a .t) (at .loop .i) _ refl (at .loop .inv .1) _ (u .result) (u .ensures))
+loop-again c =
+    let at = c .before .before .before .before .before in
+    let a = at .before .before .args in
+    let u = c .before .before .cnot-if in
+    (search needs, cnots-turn (now (a .gates)) (at .loop .gates) (a .k) (at .loop .j) (a .q) (a .t) (at .loop .i) _ refl (at .loop .inv .1) _ (u .result) (u .ensures))
 
 same-length : tie.Need-same-length Inv-loop μ-loop
 same-length c = let at = c .before in stored-same _ _ _ _ _ (at .loop .inv .1)

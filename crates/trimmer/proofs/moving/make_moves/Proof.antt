@@ -89,7 +89,8 @@ loop-again c =
     let l0 = now (a .log) in
     let r = c .make-move .result in
     let t = c .make-move .ensures in (
-      made-more (a .n) (p .1) (s0 .marks) l0 sound (s .count) (s .marks) (at .loop .log) made (s .forty) f (p .3) (r .count) (t .one-more) (r .marks) _ (t .marks-left) (c .before .before .before .put-move .ensures),
+      made-more (a .n) (p .1) (s0 .marks) l0 sound (s .count) (s .marks) (at .loop .log) made (s .forty) f (p .3) (r .count) (t .one-more) (r .marks) _
+          (t .marks-left) (c .before .before .before .put-move .ensures),
       t .next,
       sound,
     )

@@ -21,7 +21,9 @@ or-else-requires-2 : tie.Need-or-else-requires-2
 or-else-requires-2 c κs = search needs
 
 returns : tie.Need-returns
-returns c = c .or-else2 .ensures ∙ ap₂ orElse (c .before .lent-fault3 .ensures) (c .before .before .or-else .ensures ∙ ap₂ orElse (c .before .before .before .before .lent-fault .ensures) (c .before .before .before .lent-fault2 .ensures))
+returns c =
+    c .or-else2 .ensures ∙ ap₂ orElse (c .before .lent-fault3 .ensures)
+    (c .before .before .or-else .ensures ∙ ap₂ orElse (c .before .before .before .before .lent-fault .ensures) (c .before .before .before .lent-fault2 .ensures))
 
 pub tables-fault-spec : {M : Type 1} → statement M
 tables-fault-spec =

@@ -27,7 +27,10 @@ cast-result : tie.Need-cast-result
 cast-result c = search needs
 
 returns-2 : tie.Need-returns-2
-returns-2 c = let a = c .before .before .before .before .args in weight-below maxWires (a .n) (now (a .one)) (now (a .q)) (a .mark) (a .p) (c .rest-in .result) (omega (arith, shifted 64 (a .n) (omega arith))) (c .rest-in .ensures .0)
+returns-2 c =
+    let a = c .before .before .before .before .args in
+    weight-below maxWires (a .n) (now (a .one)) (now (a .q)) (a .mark) (a .p) (c .rest-in .result) (omega (arith, shifted 64 (a .n) (omega arith)))
+    (c .rest-in .ensures .0)
 
 pub new-weight-spec : {M : Type 1} → statement M
 new-weight-spec = tie.close (tie.spec shl-if1 returns cast-rest-in rest-in-requires add-result cast-result returns-2)

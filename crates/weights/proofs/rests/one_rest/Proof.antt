@@ -25,7 +25,10 @@ cast-result-2 : tie.Need-cast-result-2
 cast-result-2 c = search needs
 
 returns : tie.Need-returns
-returns c = let a = c .before .before .before .before .args in one-end maxWires (a .n) (now (a .d)) (now (a .q)) (a .i) (c .l-entry .result) (c .before .pairs-with .result) (c .l-entry .ensures) (c .before .pairs-with .ensures .0)
+returns c =
+    let a = c .before .before .before .before .args in
+    one-end maxWires (a .n) (now (a .d)) (now (a .q)) (a .i) (c .l-entry .result) (c .before .pairs-with .result) (c .l-entry .ensures)
+    (c .before .pairs-with .ensures .0)
 
 pub one-rest-spec : {M : Type 1} → statement M
 one-rest-spec = tie.close (tie.spec pairs-with-requires l-entry-requires cast-result mul-result add-result cast-result-2 returns)

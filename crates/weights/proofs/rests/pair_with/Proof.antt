@@ -23,7 +23,10 @@ pair-rest-requires : tie.Need-pair-rest-requires
 pair-rest-requires c κs = search needs
 
 returns-2 : tie.Need-returns-2
-returns-2 c = let a = c .before .before .before .before .before .args in lower-wire maxWires (now (a .q)) (a .i) (a .j) (c .pair-rest .result) (c .before .before .before .if1 .left) (c .pair-rest .ensures .1) (omega arith) (c .pair-rest .ensures .0)
+returns-2 c =
+    let a = c .before .before .before .before .before .args in
+    lower-wire maxWires (now (a .q)) (a .i) (a .j) (c .pair-rest .result) (c .before .before .before .if1 .left) (c .pair-rest .ensures .1) (omega arith)
+    (c .pair-rest .ensures .0)
 
 mul-pair-rest-2 : tie.Need-mul-pair-rest-2
 mul-pair-rest-2 c = search needs
@@ -38,7 +41,11 @@ pair-rest-requires-2 : tie.Need-pair-rest-requires-2
 pair-rest-requires-2 c κs = search needs
 
 returns-3 : tie.Need-returns-3
-returns-3 c = let a = c .before .before .before .before .before .args in higher-wire maxWires (now (a .q)) (a .i) (a .j) (c .pair-rest2 .result) (c .before .before .before .if1 .left) (c .pair-rest2 .ensures .1) (omega arith) (c .pair-rest2 .ensures .0)
+returns-3 c =
+    let a = c .before .before .before .before .before .args in
+    higher-wire maxWires (now (a .q)) (a .i) (a .j) (c .pair-rest2 .result) (c .before .before .before .if1 .left) (c .pair-rest2 .ensures .1) (omega arith)
+    (c .pair-rest2 .ensures .0)
 
 pub pair-with-spec : {M : Type 1} → statement M
-pair-with-spec = tie.close (tie.spec returns mul-pair-rest add-pair-rest shared-slice-read-pair-rest pair-rest-requires returns-2 mul-pair-rest-2 add-pair-rest-2 shared-slice-read-pair-rest-2 pair-rest-requires-2 returns-3)
+pair-with-spec =
+    tie.close (tie.spec returns mul-pair-rest add-pair-rest shared-slice-read-pair-rest pair-rest-requires returns-2 mul-pair-rest-2 add-pair-rest-2 shared-slice-read-pair-rest-2 pair-rest-requires-2 returns-3)

@@ -36,7 +36,10 @@ same-length c = search needs
 returns : tie.Need-returns
 returns c =
     let a = c .before .before .before .before .before .before .before .before .before .before .before .before .before .before .before .before .args in
-    by-difference weightBytes maxWires (a .n) (now (a .d)) (now (a .u)) _ _ _ (c .before .before .before .before .before .before .before .before .before .before .before .put-q .ensures) (c .before .before .before .before .before .before .before .put-one-rests .ensures) (c .before .before .put-weights .ensures)
+    by-difference weightBytes maxWires (a .n) (now (a .d)) (now (a .u)) _ _ _
+    (c .before .before .before .before .before .before .before .before .before .before .before .put-q .ensures)
+    (c .before .before .before .before .before .before .before .put-one-rests .ensures) (c .before .before .put-weights .ensures)
 
 pub put-by-difference-spec : {M : Type 1} → statement M
-put-by-difference-spec = tie.close (tie.spec slice-aggregate-put-q put-q-requires slice-aggregate-put-one-rests slice-aggregate-put-one-rests-2 put-one-rests-requires slice-aggregate-put-weights slice-aggregate-put-weights-2 put-weights-requires same-length returns)
+put-by-difference-spec =
+    tie.close (tie.spec slice-aggregate-put-q put-q-requires slice-aggregate-put-one-rests slice-aggregate-put-one-rests-2 put-one-rests-requires slice-aggregate-put-weights slice-aggregate-put-weights-2 put-weights-requires same-length returns)

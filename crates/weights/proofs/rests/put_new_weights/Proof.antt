@@ -58,7 +58,10 @@ returns c =
     let e = shifted 64 (a .n) (omega arith) in
     let le = pow-mono {i = a .n} {j = maxWires} fit in
     let pre = c .before .before .before .before .before .before .before .before .before .before .before .pre in
-    new-made weightBytes maxWires (a .n) (1 * 2 ^ a .n % 2 ^ 64) (now (a .w)) (now (a .u)) (c .before .before .before .before .before .before .put-difference .last .1 .1 .0) _ fit le (pre .1) (pre .2) e (c .before .before .before .before .before .before .put-difference .ensures) (c .before .before .put-by-difference .ensures)
+    new-made weightBytes maxWires (a .n) (1 * 2 ^ a .n % 2 ^ 64) (now (a .w)) (now (a .u))
+    (c .before .before .before .before .before .before .put-difference .last .1 .1 .0) _ fit le (pre .1) (pre .2) e
+    (c .before .before .before .before .before .before .put-difference .ensures) (c .before .before .put-by-difference .ensures)
 
 pub put-new-weights-spec : {M : Type 1} → statement M
-put-new-weights-spec = tie.close (tie.spec slice-aggregate-put-difference put-difference-requires shl-d array-share-prefix-d slice-aggregate-put-by-difference put-by-difference-requires same-length returns)
+put-new-weights-spec =
+    tie.close (tie.spec slice-aggregate-put-difference put-difference-requires shl-d array-share-prefix-d slice-aggregate-put-by-difference put-by-difference-requires same-length returns)

@@ -19,7 +19,9 @@ abbrev μ-loop : tie.MeasureT-loop
 μ-loop n one q u out₀ p₀ out p = weightBytes - p
 
 loop-holds : tie.Need-loop-holds Inv-loop μ-loop
-loop-holds c = let a = c .before .before .before .before .args in (search needs, search needs, filled-none (now (a .out)) (weightsIn weightBytes maxWires (a .n) (now (a .one)) (now (a .q)) (now (a .u))))
+loop-holds c =
+    let a = c .before .before .before .before .args in
+    (search needs, search needs, filled-none (now (a .out)) (weightsIn weightBytes maxWires (a .n) (now (a .one)) (now (a .q)) (now (a .u))))
 
 shared-slice-read-new-weight : tie.Need-shared-slice-read-new-weight Inv-loop μ-loop
 shared-slice-read-new-weight c = search needs

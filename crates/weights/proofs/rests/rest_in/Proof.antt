@@ -15,16 +15,22 @@ lowest-requires : tie.Need-lowest-requires
 lowest-requires c κs = search needs
 
 shared-slice-read-wide : tie.Need-shared-slice-read-wide
-shared-slice-read-wide c = let a = c .before .before .before .before .before .args in omega (arith, one-inside maxWires maxWires (a .p) (omega arith) (omega arith) (c .before .if1 .taken), c .before .before .lowest .ensures .0)
+shared-slice-read-wide c =
+    let a = c .before .before .before .before .before .args in
+    omega (arith, one-inside maxWires maxWires (a .p) (omega arith) (omega arith) (c .before .if1 .taken), c .before .before .lowest .ensures .0)
 
 wide-requires : tie.Need-wide-requires
 wide-requires c κs = search needs
 
 returns : tie.Need-returns
-returns c = let a = c .before .before .before .before .before .before .args in (c .wide .ensures .0 ∙ rest-one-wire maxWires (now (a .one)) (now (a .q)) (a .p) (c .before .before .before .lowest .result) (c .before .before .if1 .taken) (c .before .before .before .lowest .ensures .0), omega (arith, c .wide .ensures .1))
+returns c =
+    let a = c .before .before .before .before .before .before .args in
+    (c .wide .ensures .0 ∙ rest-one-wire maxWires (now (a .one)) (now (a .q)) (a .p) (c .before .before .before .lowest .result) (c .before .before .if1 .taken) (c .before .before .before .lowest .ensures .0), omega (arith, c .wide .ensures .1))
 
 without-requires : tie.Need-without-requires
-without-requires c κs = let a = c .before .before .before .before .before .args in rw (c .before .before .lowest .ensures .0) (low-inside maxWires maxWires (a .p) (omega arith) (omega arith) (c .if2 .taken))
+without-requires c κs =
+    let a = c .before .before .before .before .before .args in
+    rw (c .before .before .lowest .ensures .0) (low-inside maxWires maxWires (a .p) (omega arith) (omega arith) (c .if2 .taken))
 
 lowest-requires-2 : tie.Need-lowest-requires-2
 lowest-requires-2 c κs = search needs
@@ -58,4 +64,5 @@ returns-3 : tie.Need-returns-3
 returns-3 c = let a = c .before .before .before .before .before .args in (rest-more-wires maxWires (now (a .one)) (now (a .q)) (a .p) (c .before .if1 .left) (c .if2 .left), omega arith)
 
 pub rest-in-spec : {M : Type 1} → statement M
-rest-in-spec = tie.close (tie.spec lowest-requires shared-slice-read-wide wide-requires returns without-requires lowest-requires-2 mul-pair-rest add-pair-rest shared-slice-read-pair-rest pair-rest-requires returns-2 returns-3)
+rest-in-spec =
+    tie.close (tie.spec lowest-requires shared-slice-read-wide wide-requires returns without-requires lowest-requires-2 mul-pair-rest add-pair-rest shared-slice-read-pair-rest pair-rest-requires returns-2 returns-3)

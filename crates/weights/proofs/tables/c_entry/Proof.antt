@@ -15,7 +15,9 @@ c-of-requires : tie.Need-c-of-requires
 c-of-requires c κs = search needs
 
 returns-3 : tie.Need-returns-3
-returns-3 c = let a = c .before .before .before .before .before .args in simp (lt-ltb (a .i) (a .j) (omega arith), lt-ltb (a .j) (a .k) (omega arith), lt-ltb (a .k) (a .n) (omega arith)) (c .c-of .ensures)
+returns-3 c =
+    let a = c .before .before .before .before .before .args in
+    simp (lt-ltb (a .i) (a .j) (omega arith), lt-ltb (a .j) (a .k) (omega arith), lt-ltb (a .k) (a .n) (omega arith)) (c .c-of .ensures)
 
 returns-4 : tie.Need-returns-4
 returns-4 c = let a = c .before .before .before .before .args in simp (lt-ltb (a .i) (a .j) (omega arith), lt-ltb (a .j) (a .k) (omega arith), le-ltb (a .k) (a .n) (omega arith))
