@@ -11,6 +11,7 @@ use lib.Dec.{ltb}
 use lib.ListN.{drop, length, length-append, take}
 use lib.Seq.{drop-append-seam, take-append-seam}
 use borrow.Author.Tests.{le-ltb, lt-ltb}
+use Rattle.circuit.proofs.Bytes.{gates-in}
 use Rattle.circuit.proofs.GateKinds.{kind-above, t-is-odd}
 use Rattle.circuit.proofs.Laws.{fault-is-first, odd-set-no-larger}
 use Rattle.circuit.specs.Faults.{AllWellFormed, Has, KindHas, KindWellFormed, WellFormed, firstFault, gateAt, lentOutput, sameWire}
@@ -27,7 +28,6 @@ use Rattle.text.proofs.WrittenReads.{AllBytes}
 use Rattle.text.specs.Limits.{replyBytes, textBytes}
 use Rattle.text.specs.Text.{Sayable, Text, circuit, readText}
 use Rattle.text.specs.Written.{gateLines, wiresLine}
-use Rattle.answer.proofs.AnswerWays.{gates-in}
 use Rattle.answer.specs.Entry.{AnswerText, Outcome, Writes-printed}
 use Rattle.answer.specs.Printed.{Prints, PrintsTrim}
 use Rattle.answer.specs.declared.Answered.{Answered}

@@ -1,11 +1,12 @@
 -- One law for each way out of the functions of this crate: what the text reader and the trim reply, and what is printed for it.
 use mathlib.Core.Bool.{Bool}
-use mathlib.Core.List.{List, [], _∷_}
+use mathlib.Core.List.{List}
 use mathlib.Core.Path.{_∙_, _≡_, ap, ap₂, refl, subst, sym}
 use Prim.Native.Nat.{_*_, _/_, _<_, _≤_, ℕ}
 use native.Mathlib.Omega.{arith}
 use lib.ListN.{length, length-take, take}
 use borrow.Author.Tests.{le-ltb, lt-ltb}
+use Rattle.circuit.proofs.Bytes.{gates-in}
 use Rattle.circuit.proofs.Judging.{list-well, or-well, short-well, wires-well}
 use Rattle.circuit.specs.Faults.{firstFault, lentOutput, listFault, refuse, shortFault, wiresFault}
 use Rattle.circuit.specs.Gate.{gatesOf}
@@ -28,14 +29,6 @@ use Rattle.answer.specs.Entry.{AnswerText, Writes-printed}
 use Rattle.answer.specs.Entry as entry
 use Rattle.answer.specs.Printed.{PrintsGates, trimLines}
 use Rattle.answer.specs.declared.Answered.the-variants.{Done, Refused}
-
--- a gate takes three bytes
-pub gates-in : (bytes : List ℕ) → gateBytes * length (gatesOf bytes) ≤ length bytes
-unfolding gatesOf
-gates-in [] = omega arith
-gates-in (k ∷ []) = omega arith
-gates-in (k ∷ a ∷ []) = omega arith
-gates-in (k ∷ a ∷ b ∷ bytes) = omega (arith, gates-in bytes)
 
 -- ---- the trim of a circuit that a text says, with room lent for D and the log
 

@@ -1,15 +1,19 @@
 -- What an exported function promises: the entry's own promise, its reply told as document 01's number and place and the counts beside them.
 use mathlib.Core.List.{List}
 use mathlib.Core.Path.{_≡_}
-use Prim.Native.Nat.{_+_, _≤_, ℕ}
+use Prim.Native.Nat.{_*_, _+_, ℕ}
+use lib.Dec.{leb}
 use lib.ListN.{drop, length, take}
 use Rattle.answer.specs.declared.Answered as answers
 use Rattle.answer.specs.declared.Answered.the-variants as answer
 use Rattle.circuit.specs.Entry.{numberOf, placeOf}
+use Rattle.circuit.specs.Limits.{moveBytes}
+use Rattle.circuit.specs.Read.{either}
 use Rattle.circuit.specs.declared.Reply.{Reply}
 use Rattle.finder.specs.declared.Finding as finding
 use Rattle.finder.specs.declared.Finding.the-variants as found
 use Rattle.finder.specs.Entry as find
+use Rattle.moves.specs.Log.{moveAt}
 use Rattle.synth.specs.declared.Written as writing
 use Rattle.synth.specs.Entry.{writtenNumber, writtenPlace, writtenCount}
 use Rattle.text.specs.declared.TextReply as texts
@@ -120,8 +124,9 @@ pub record AnswerInC (Promise : answers.Answered → Type 0) (number place bytes
   pub place-is : place ≡ answerPlace reply
   pub bytes-is : bytes ≡ answerBytes reply
 
--- ---- move_at: a part of lent bytes, told by where it starts and how long it is
+-- ---- move_at: the part told by where it starts and how long it is; both 0 where the log is too short for move k
 
-pub record IsPart (lent : List ℕ) (start long : ℕ) (part : List ℕ) : Type 0 where
-  pub within : start + long ≤ length lent
-  pub is : take long (drop start lent) ≡ part
+pub record MoveInC (log : List ℕ) (k start long : ℕ) : Type 0 where
+  pub starts : start ≡ either (leb (moveBytes * k + moveBytes) (length log)) (moveBytes * k) 0
+  pub lasts : long ≡ length (moveAt moveBytes log k)
+  pub is : take long (drop start log) ≡ moveAt moveBytes log k

@@ -4,15 +4,13 @@ ghost use mathlib.Core.Path.{_≡_};
 ghost use Rattle.circuit.specs.Entry.{numberOf, placeOf, ReadList};
 ghost use Rattle.weights.specs.Entry.{OddSetOf, CoefficientsOf, NewWeightsOf};
 ghost use Rattle.carry.specs.Entry.{CarriesOut};
-ghost use Rattle.circuit.specs.Limits.{moveBytes};
 ghost use Rattle.finder.specs.Entry.{FindMove};
 ghost use Rattle.finder.specs.Entry as find;
-ghost use Rattle.moves.specs.Log.{moveAt};
 ghost use Rattle.synth.specs.Entry.{WriteList, writtenCount, writtenNumber, writtenPlace};
 ghost use Rattle.text.specs.Entry.{ReadText};
 ghost use Rattle.trimmer.specs.Entry.{TrimList};
 ghost use Rattle.answer.specs.Entry.{AnswerText};
-ghost use Rattle.capi.specs.InC.{InC, FindInC, WriteInC, TrimInC, foundOf, trimNumber, trimPlace, countsOf, TextInC, textNumber, textPlace, textWires, textGates, AnswerInC, answerNumber, answerPlace, answerBytes, IsPart};
+ghost use Rattle.capi.specs.InC.{InC, FindInC, WriteInC, TrimInC, foundOf, trimNumber, trimPlace, countsOf, TextInC, textNumber, textPlace, textWires, textGates, AnswerInC, answerNumber, answerPlace, answerBytes, MoveInC};
 use answer::Answered;
 use circuit::Reply;
 use circuit::limits::MOVE_BYTES;
@@ -173,7 +171,7 @@ pub extern "C" fn sulmedra_trim(
 // `carry::move_at`, as a place in the log.
 #[no_mangle]
 pub extern "C" fn sulmedra_move_at(log: &[u8], k: usize) -> SulmedraPart
-    ensures { λ r. ⌜ IsPart (now (log .entry)) (r .start) (r .length) (moveAt moveBytes (now (log .entry)) k) ⌝ }
+    ensures { λ r. ⌜ MoveInC (now (log .entry)) k (r .start) (r .length) ⌝ }
 {
     if k < log.len() / MOVE_BYTES {
         SulmedraPart {

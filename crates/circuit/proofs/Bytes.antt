@@ -1,7 +1,7 @@
 -- Gates and their bytes: what a loop over bytes, three at a time, needs.
 use mathlib.Core.List.{List, [], _∷_}
 use mathlib.Core.Path.{ap, refl, _∙_, _≡_}
-use Prim.Native.Nat.{_*_, _+_, _/_, _<_, suc, ℕ}
+use Prim.Native.Nat.{_*_, _+_, _/_, _<_, suc, ℕ, _≤_}
 use native.Mathlib.Omega.{arith}
 use lib.ListN.{drop, getD, length, length-drop}
 use lib.Seq.{drop-cons}
@@ -43,3 +43,11 @@ short (k ∷ a ∷ b ∷ bytes) h = absurd (omega arith)
 
 pub gates-tail : (bytes : List ℕ) (i : ℕ) → i ≡ length bytes / 3 → gatesFrom bytes i ≡ []
 gates-tail bytes i e = short (drop (3 * i) bytes) (rw (length-drop (3 * i) bytes) (omega arith))
+
+-- a gate takes three bytes
+pub gates-in : (bytes : List ℕ) → 3 * length (gatesOf bytes) ≤ length bytes
+unfolding gatesOf
+gates-in [] = omega arith
+gates-in (k ∷ []) = omega arith
+gates-in (k ∷ a ∷ []) = omega arith
+gates-in (k ∷ a ∷ b ∷ bytes) = omega (arith, gates-in bytes)

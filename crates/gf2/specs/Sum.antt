@@ -1,7 +1,7 @@
 -- Sums over the numbers below a bound.
 use Prim.Native.Nat.{_+_, suc, zero, ℕ}
 
--- f 0 + .. + f (k - 1). Shut: at a numeral such as 256 it must not unfold
+-- f 0 + .. + f (k - 1). Shut: at a large numeral it must not unfold
 unfoldable pub sum : ℕ → (ℕ → ℕ) → ℕ
 sum zero f = 0
 sum (suc k) f = sum k f + f k

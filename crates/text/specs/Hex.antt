@@ -4,6 +4,7 @@ use mathlib.Core.List.{List, [], _∷_, _++_}
 use Prim.Native.Nat.{_%_, _+_, _-_, _/_, ℕ}
 use lib.Dec.{leb, ltb}
 use Rattle.circuit.specs.Read.{either}
+use Rattle.text.specs.Limits.{byteValues}
 
 -- the byte that ends a line
 abbrev pub newline : ℕ
@@ -38,4 +39,4 @@ hex2 v = digit (v / 16 % 16) ∷ digit (v % 16) ∷ []
 
 -- the last four digits of a number
 abbrev pub hex4 : ℕ → List ℕ
-hex4 v = hex2 (v / 256) ++ hex2 v
+hex4 v = hex2 (v / byteValues) ++ hex2 v

@@ -2,6 +2,10 @@
 use Prim.Native.Nat.{_*_, _+_, ℕ}
 use Rattle.circuit.specs.Limits.{gateBytes, maxGates, maxWrittenGates}
 
+-- a byte has 256 values, which two digits tell
+abbrev pub byteValues : ℕ
+byteValues = 16 * 16
+
 -- n has two digits
 abbrev pub wiresDigits : ℕ
 wiresDigits = 2

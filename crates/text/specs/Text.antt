@@ -9,7 +9,7 @@ use Rattle.circuit.specs.Faults.{listLength, refuse, wiresFault}
 use Rattle.circuit.specs.Limits.{gateBytes, maxGates, maxListBytes, maxWires}
 use Rattle.circuit.specs.declared.Reply.{Reply}
 use Rattle.circuit.specs.declared.Reply.the-variants.{Done, Refused}
-use Rattle.text.specs.Limits.{gateDigits, wiresDigits}
+use Rattle.text.specs.Limits.{byteValues, gateDigits, wiresDigits}
 use Rattle.text.specs.Lines.{Line, formed, lineSpells, linesOf, linesSpell}
 
 -- the table's number of a malformed line
@@ -58,4 +58,4 @@ pub record Sayable (n : ℕ) (bytes : List ℕ) : Type 0 where
   pub few : n ≤ maxWires
   pub whole : length bytes % gateBytes ≡ 0
   pub short : length bytes ≤ maxListBytes
-  pub byte : (i : ℕ) → getD bytes i 0 < 256
+  pub byte : (i : ℕ) → getD bytes i 0 < byteValues

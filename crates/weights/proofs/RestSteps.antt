@@ -21,20 +21,20 @@ use Rattle.phase.proofs.Wires.{is-one, is-two, low-one, low-two, next-two}
 use Rattle.phase.specs.NewWeights.{apart, byWires, low, newWeight, newWeights, next, oneRest, pairRest, rest}
 use Rattle.weights.proofs.Difference.{one-by-difference, pair-by-difference}
 use Rattle.weights.proofs.Places.{length-weights, one-at, weights-at}
-use Rattle.weights.specs.Rests.{difference, newIn, oneIn, oneRests, pairIn, restIn, weightIn, weightsIn}
+use Rattle.weights.specs.Rests.{difference, mostRest, newIn, oneIn, oneRests, pairIn, restIn, weightIn, weightsIn}
 use Rattle.weights.specs.Tables.{lEntry, qTable}
 
 -- ---- the rest of a pair, and those with wire i summed
 
 module _ (N : ℕ) (qs : List ℕ) (i j : ℕ) where
-  pub same-wire : i ≡ j → (0 ≡ apart i j * pairIn N qs i j) × (0 ≤ 765)
+  pub same-wire : i ≡ j → (0 ≡ apart i j * pairIn N qs i j) × (0 ≤ mostRest)
   same-wire e = (rw (e, apart-same j) (omega arith), omega arith)
 
-  module _ (r : ℕ) (ne : i ≢ j) (b : r ≤ 765) where
-    pub lower-wire : i < j → r ≡ 3 * getD qs (N * j + i) 0 → (r ≡ apart i j * pairIn N qs i j) × (r ≤ 765)
+  module _ (r : ℕ) (ne : i ≢ j) (b : r ≤ mostRest) where
+    pub lower-wire : i < j → r ≡ 3 * getD qs (N * j + i) 0 → (r ≡ apart i j * pairIn N qs i j) × (r ≤ mostRest)
     lower-wire h e = (simp (lt-ltb i j h) (rw (apart-other i j (λ f. ne (sym f))) (omega (arith, e))), b)
 
-    pub higher-wire : j ≤ i → r ≡ 3 * getD qs (N * i + j) 0 → (r ≡ apart i j * pairIn N qs i j) × (r ≤ 765)
+    pub higher-wire : j ≤ i → r ≡ 3 * getD qs (N * i + j) 0 → (r ≡ apart i j * pairIn N qs i j) × (r ≤ mostRest)
     higher-wire h e = (simp (le-ltb i j h) (rw (apart-other i j (λ f. ne (sym f))) (omega (arith, e))), b)
 
 -- the sum over the first m other wires

@@ -7,7 +7,7 @@ use Rattle.circuit.specs.Faults.{orElse, wiresFault}
 use Rattle.circuit.specs.Limits.{maxMark, maxWeight, weightBytes}
 use Rattle.circuit.specs.Read.{either}
 
--- weights or odd set not 256 bytes, or a byte against its rule
+-- weights or odd set of another length than theirs, or a byte against its rule
 abbrev pub tableRule : ℕ
 tableRule = 6
 

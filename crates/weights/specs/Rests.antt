@@ -11,6 +11,10 @@ use Rattle.gf2.specs.Table.{tabulate}
 use Rattle.phase.specs.NewWeights.{apart, byWires, low, next}
 use Rattle.weights.specs.Tables.{lEntry, qTable}
 
+-- no rest is more than three times a byte, before it is reduced
+abbrev pub mostRest : ℕ
+mostRest = 3 * 255
+
 -- w less u, modulo 8: 7 is minus one
 unfoldable pub difference : List ℕ → List ℕ → List ℕ
 difference w u = tabulate (length w) (λ p. weight w p + 7 * weight u p)

@@ -8,7 +8,7 @@ ghost use Rattle.gf2.specs.Sum.{sum};
 ghost use Rattle.circuit.specs.Limits.{maxWires, pairBytes, weightBytes};
 ghost use Rattle.circuit.specs.Sound.{SoundMarks, SoundWeights};
 ghost use Rattle.phase.specs.NewWeights.{apart, newWeights};
-ghost use Rattle.weights.specs.Rests.{difference, newIn, oneIn, oneRests, pairIn, restIn, weightIn, weightsIn};
+ghost use Rattle.weights.specs.Rests.{difference, mostRest, newIn, oneIn, oneRests, pairIn, restIn, weightIn, weightsIn};
 use crate::tables::l_entry;
 use crate::tables::put_q;
 use circuit::limits::MAX_WIRES;
@@ -71,7 +71,7 @@ fn one_rest(n: usize, d: &[u8], q: &[u8], i: usize) -> u8
 // The rests of the pairs with wire i, summed.
 fn pairs_with(n: usize, q: &[u8], i: usize) -> u32
     requires { ⌜ (n ≤ maxWires) × (length (now q) ≡ pairBytes) × (i < maxWires) ⌝ }
-    ensures { λ r. ⌜ (r ≡ sum n (λ j. apart i j * pairIn maxWires (now (q .entry)) i j)) × (r ≤ 765 * n) ⌝ }
+    ensures { λ r. ⌜ (r ≡ sum n (λ j. apart i j * pairIn maxWires (now (q .entry)) i j)) × (r ≤ mostRest * n) ⌝ }
 {
     let mut s: u32 = 0;
     for j in 0..n {
@@ -83,7 +83,7 @@ fn pairs_with(n: usize, q: &[u8], i: usize) -> u32
 // The rest of wires i and j, and nothing where they are one wire.
 fn pair_with(q: &[u8], i: usize, j: usize) -> u32
     requires { ⌜ (length (now q) ≡ pairBytes) × (i < maxWires) × (j < maxWires) ⌝ }
-    ensures { λ r. ⌜ (r ≡ apart i j * pairIn maxWires (now (q .entry)) i j) × (r ≤ 765) ⌝ }
+    ensures { λ r. ⌜ (r ≡ apart i j * pairIn maxWires (now (q .entry)) i j) × (r ≤ mostRest) ⌝ }
 {
     if i == j {
         return 0;
@@ -96,7 +96,7 @@ fn pair_with(q: &[u8], i: usize, j: usize) -> u32
 
 // By q of the difference: 6 where q of weights and marks differs by 2, 0 where it is the same.
 fn pair_rest(x: u8) -> u32
-    ensures { λ r. ⌜ (r ≡ 3 * x) × (r ≤ 765) ⌝ }
+    ensures { λ r. ⌜ (r ≡ 3 * x) × (r ≤ mostRest) ⌝ }
 {
     3 * wide(x)
 }
@@ -131,7 +131,7 @@ fn new_weight(n: usize, one: &[u8], q: &[u8], mark: u8, p: usize) -> u8
 // The rest on p: one wire, two, or more.
 fn rest_in(one: &[u8], q: &[u8], p: Parity) -> u32
     requires { ⌜ (length (now one) ≡ maxWires) × (length (now q) ≡ pairBytes) ⌝ }
-    ensures { λ r. ⌜ (r ≡ restIn maxWires (now (one .entry)) (now (q .entry)) p) × (r ≤ 765) ⌝ }
+    ensures { λ r. ⌜ (r ≡ restIn maxWires (now (one .entry)) (now (q .entry)) p) × (r ≤ mostRest) ⌝ }
 {
     let o = u8::count_ones(p);
     let i = lowest(p);

@@ -1,9 +1,14 @@
 -- A part is whole or empty.
-use mathlib.Core.Path.{sym}
+use mathlib.Core.Path.{_∙_, ap, sym}
+use Prim.Native.Nat.{_*_, _+_}
 use native.Mathlib.Omega.{arith}
+use lib.ListN.{drop, length, length-drop}
+use lib.Seq.{length-take-le}
 use borrow.Author.Needs.{needs}
+use borrow.Author.Tests.{le-leb, lt-leb}
 use denote.Ref.{now}
 use Rattle.carry.proofs.Laws.{part-short, part-whole}
+use Rattle.circuit.specs.Limits.{moveBytes}
 use Rattle.capi.proofs.sulmedra_move_at.Statement.{statement}
 use Rattle.capi.proofs.sulmedra_move_at.Tie as tie
 
@@ -11,10 +16,22 @@ mul-t7 : tie.Need-mul-t7
 mul-t7 c = search needs
 
 returns : tie.Need-returns
-returns c = let a = c .before .args in record { within = omega arith; is = sym (part-whole (now (a .log)) (a .k) (omega arith)) }
+returns c =
+    let a = c .before .args in
+    let log = now (a .log) in
+    let whole = part-whole log (a .k) (omega arith) in
+    record {
+      starts = simp (le-leb (moveBytes * a .k + moveBytes) (length log) (omega arith));
+      lasts = sym (ap length whole ∙ length-take-le moveBytes (drop (moveBytes * a .k) log) (omega (arith, length-drop (moveBytes * a .k) log)));
+      is = sym whole;
+    }
 
 returns-2 : tie.Need-returns-2
-returns-2 c = let a = c .before .args in record { within = omega arith; is = sym (part-short (now (a .log)) (a .k) (omega arith)) }
+returns-2 c =
+    let a = c .before .args in
+    let log = now (a .log) in
+    let short = part-short log (a .k) (omega arith) in
+    record { starts = simp (lt-leb (moveBytes * a .k + moveBytes) (length log) (omega arith)); lasts = sym (ap length short); is = sym short }
 
 pub sulmedra-move-at-spec : {M : Type 1} → statement M
 sulmedra-move-at-spec = tie.close (tie.spec mul-t7 returns returns-2)

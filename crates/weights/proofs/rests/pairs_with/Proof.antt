@@ -7,11 +7,12 @@ use denote.Ref.{now}
 use Rattle.circuit.specs.Limits.{maxWires}
 use Rattle.gf2.specs.Sum.{sum}
 use Rattle.weights.proofs.RestSteps.{others, others-next}
+use Rattle.weights.specs.Rests.{mostRest}
 use Rattle.weights.proofs.rests.pairs_with.Statement.{statement}
 use Rattle.weights.proofs.rests.pairs_with.Tie as tie
 
 abbrev Inv-loop : tie.InvT-loop
-Inv-loop n q i s₀ j₀ s j = (j ≤ n) × (s ≡ others q maxWires i j) × (s ≤ 765 * j)
+Inv-loop n q i s₀ j₀ s j = (j ≤ n) × (s ≡ others q maxWires i j) × (s ≤ mostRest * j)
 
 abbrev μ-loop : tie.MeasureT-loop
 μ-loop n q i s₀ j₀ s j = n - j
