@@ -10,7 +10,7 @@ use Rattle.circuit.proofs.Bytes.{gates-in}
 use Rattle.circuit.proofs.Judging.{list-well, or-well, short-well, wires-well}
 use Rattle.circuit.specs.Faults.{firstFault, lentOutput, listFault, refuse, shortFault, wiresFault}
 use Rattle.circuit.specs.Gate.{gatesOf}
-use Rattle.circuit.specs.Limits.{gateBytes, logBytes, maxListBytes, writeBytes}
+use Rattle.circuit.specs.Limits.{gateBytes, logCells, maxListBytes, writeBytes}
 use Rattle.circuit.specs.declared.Reply.{Reply}
 use Rattle.circuit.specs.declared.Reply.the-variants as reply
 use Rattle.text.proofs.TextLaws.{CircuitRead, done-reads}
@@ -32,12 +32,12 @@ use Rattle.answer.specs.declared.Answered.the-variants.{Done, Refused}
 
 -- ---- the trim of a circuit that a text says, with room lent for D and the log
 
-module _ (n : ℕ) (g list log : List ℕ) (said : Sayable n g) (room : writeBytes ≤ length list) (log-room : logBytes ≤ length log) where
+module _ (n : ℕ) (g list log : List ℕ) (said : Sayable n g) (room : writeBytes ≤ length list) (log-room : logCells ≤ length log) where
   -- it is judged by its gates alone
   no-fault : trimFault n (length g) (length list) (length log) ≡ 0
   unfolding trimFault
   no-fault =
-      let outs = or-well (shortFault (length list) writeBytes) (shortFault (length log) logBytes) (short-well (length list) writeBytes room) (short-well (length log) logBytes log-room) in
+      let outs = or-well (shortFault (length list) writeBytes) (shortFault (length log) logCells) (short-well (length list) writeBytes room) (short-well (length log) logCells log-room) in
       or-well (wiresFault n) _ (wires-well n (said .some) (said .few)) (or-well (listFault (length g)) _ (list-well (length g) (said .whole) (said .short)) outs)
 
   judged : verdict n g (length list) (length log) ≡ firstFault n 0 (gatesOf g)

@@ -7,7 +7,7 @@ use lib.ListN.{drop, length, take}
 use Rattle.answer.specs.declared.Answered as answers
 use Rattle.answer.specs.declared.Answered.the-variants as answer
 use Rattle.circuit.specs.Entry.{numberOf, placeOf}
-use Rattle.circuit.specs.Limits.{moveBytes}
+use Rattle.circuit.specs.Limits.{moveCells}
 use Rattle.circuit.specs.Read.{either}
 use Rattle.circuit.specs.declared.Reply.{Reply}
 use Rattle.finder.specs.declared.Finding as finding
@@ -127,6 +127,6 @@ pub record AnswerInC (Promise : answers.Answered → Type 0) (number place bytes
 -- ---- move_at: the part told by where it starts and how long it is; both 0 where the log is too short for move k
 
 pub record MoveInC (log : List ℕ) (k start long : ℕ) : Type 0 where
-  pub starts : start ≡ either (leb (moveBytes * k + moveBytes) (length log)) (moveBytes * k) 0
-  pub lasts : long ≡ length (moveAt moveBytes log k)
-  pub is : take long (drop start log) ≡ moveAt moveBytes log k
+  pub starts : start ≡ either (leb (moveCells * k + moveCells) (length log)) (moveCells * k) 0
+  pub lasts : long ≡ length (moveAt moveCells log k)
+  pub is : take long (drop start log) ≡ moveAt moveCells log k

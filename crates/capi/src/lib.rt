@@ -13,7 +13,7 @@ ghost use Rattle.answer.specs.Entry.{AnswerText};
 ghost use Rattle.capi.specs.InC.{InC, FindInC, WriteInC, TrimInC, foundOf, trimNumber, trimPlace, countsOf, TextInC, textNumber, textPlace, textWires, textGates, AnswerInC, answerNumber, answerPlace, answerBytes, MoveInC};
 use answer::Answered;
 use circuit::Reply;
-use circuit::limits::MOVE_BYTES;
+use circuit::limits::MOVE_CELLS;
 use finder::Finding;
 use synth::Written;
 use text::TextReply;
@@ -128,18 +128,18 @@ pub extern "C" fn sulmedra_new_weights(
 
 // `carry::carry_out`.
 #[no_mangle]
-pub extern "C" fn sulmedra_carry_out(n: usize, marks: &mut [u8], forty: &[u8]) -> SulmedraReply
-    ensures { λ r. ⌜ InC (CarriesOut n (now (marks .entry)) (now (forty .entry)) (now (marks .exit))) (r .number) (r .place) ⌝ }
+pub extern "C" fn sulmedra_carry_out(n: usize, marks: &mut [u8], cells: &[u8]) -> SulmedraReply
+    ensures { λ r. ⌜ InC (CarriesOut n (now (marks .entry)) (now (cells .entry)) (now (marks .exit))) (r .number) (r .place) ⌝ }
 {
-    in_c(carry::carry_out(n, marks, forty))
+    in_c(carry::carry_out(n, marks, cells))
 }
 
 // `finder::find`.
 #[no_mangle]
-pub extern "C" fn sulmedra_find(n: usize, marks: &[u8], forty: &mut [u8]) -> SulmedraFound
-    ensures { λ r. ⌜ FindInC (FindMove n (now (marks .entry)) (now (forty .entry)) (now (forty .exit))) (r .number) (r .place) (r .found) ⌝ }
+pub extern "C" fn sulmedra_find(n: usize, marks: &[u8], cells: &mut [u8]) -> SulmedraFound
+    ensures { λ r. ⌜ FindInC (FindMove n (now (marks .entry)) (now (cells .entry)) (now (cells .exit))) (r .number) (r .place) (r .found) ⌝ }
 {
-    found_in_c(finder::find(n, marks, forty))
+    found_in_c(finder::find(n, marks, cells))
 }
 
 // `synth::write`.
@@ -173,10 +173,10 @@ pub extern "C" fn sulmedra_trim(
 pub extern "C" fn sulmedra_move_at(log: &[u8], k: usize) -> SulmedraPart
     ensures { λ r. ⌜ MoveInC (now (log .entry)) k (r .start) (r .length) ⌝ }
 {
-    if k < log.len() / MOVE_BYTES {
+    if k < log.len() / MOVE_CELLS {
         SulmedraPart {
-            start: (MOVE_BYTES * k) as u64,
-            length: MOVE_BYTES as u64,
+            start: (MOVE_CELLS * k) as u64,
+            length: MOVE_CELLS as u64,
         }
     } else {
         SulmedraPart {

@@ -9,7 +9,7 @@ use lib.ListN.{length}
 use lib.Pow.{pow-mono}
 use Rattle.circuit.proofs.Judging.{refused}
 use Rattle.circuit.specs.Faults.{lentFault, refuse}
-use Rattle.circuit.specs.Limits.{maxMembers, maxWires, weightBytes}
+use Rattle.circuit.specs.Limits.{maxMembers, maxWires, parities, tableBytes}
 use Rattle.circuit.specs.Sound.{SoundMarks}
 use Rattle.circuit.specs.declared.Reply.{Reply}
 use Rattle.circuit.specs.declared.Reply.the-variants.{Done, Refused}
@@ -18,7 +18,7 @@ use Rattle.moves.proofs.Laws.{move-keeps-signature, move-leaves-sound, move-shr
 use Rattle.moves.proofs.Wires.{legal-wires}
 use Rattle.moves.specs.CarryOut.{carryOut}
 use Rattle.moves.specs.Decide.{isMove}
-use Rattle.moves.specs.Log.{LegalBytes, setOf, zOf}
+use Rattle.moves.specs.Log.{LegalCells, setOf, zOf}
 use Rattle.moves.specs.Move.{Legal}
 use Rattle.weights.proofs.TableRule.{marks-sound}
 use Rattle.weights.proofs.Ways.{call-passes}
@@ -49,13 +49,13 @@ module _ (n : ℕ) (m b : List ℕ) (f : ℕ) (e : f ≡ carryFault n m) where
       }
 
   module _ (clear : f ≡ 0) where
-    passed : (1 ≤ n) × (n ≤ maxWires) × (lentFault (length m) weightBytes ≡ 0) × (marksFault n m ≡ 0)
-    passed = call-passes n (lentFault (length m) weightBytes) (marksFault n m) (sym e ∙ clear)
+    passed : (1 ≤ n) × (n ≤ maxWires) × (lentFault (length m) tableBytes ≡ 0) × (marksFault n m ≡ 0)
+    passed = call-passes n (lentFault (length m) tableBytes) (marksFault n m) (sym e ∙ clear)
 
-    sound-marks : SoundMarks weightBytes n m
-    sound-marks = marks-sound weightBytes n m .0 (passed .3)
+    sound-marks : SoundMarks parities n m
+    sound-marks = marks-sound parities n m .0 (passed .3)
 
-    pub marks-long : length m ≡ weightBytes
+    pub marks-long : length m ≡ tableBytes
     marks-long = sound-marks .long
 
     by-move : judge n m b ≡ carryReply n m b
@@ -63,19 +63,19 @@ module _ (n : ℕ) (m b : List ℕ) (f : ℕ) (e : f ≡ carryFault n m) where
     by-move = ap (λ (x : ℕ). refuse x 0 (judge n m b)) (sym clear ∙ e)
 
     -- the code judges on all wires
-    on-all : LegalBytes maxMembers n m b → LegalBytes maxMembers maxWires m b
+    on-all : LegalCells maxMembers n m b → LegalCells maxMembers maxWires m b
     on-all g =
-        record { z = g .z; Y = g .Y; is = g .is; legal = legal-wires weightBytes n maxWires maxMembers m (passed .1) sound-marks (g .z) (g .Y) .0 (g .legal) }
+        record { z = g .z; Y = g .Y; is = g .is; legal = legal-wires parities n maxWires maxMembers m (passed .1) sound-marks (g .z) (g .Y) .0 (g .legal) }
 
-    on-these : LegalBytes maxMembers maxWires m b → LegalBytes maxMembers n m b
+    on-these : LegalCells maxMembers maxWires m b → LegalCells maxMembers n m b
     on-these g =
-        record { z = g .z; Y = g .Y; is = g .is; legal = legal-wires weightBytes n maxWires maxMembers m (passed .1) sound-marks (g .z) (g .Y) .1 (g .legal) }
+        record { z = g .z; Y = g .Y; is = g .is; legal = legal-wires parities n maxWires maxMembers m (passed .1) sound-marks (g .z) (g .Y) .1 (g .legal) }
 
-    module _ (r : Bool) (d : Decides r (LegalBytes maxMembers maxWires m b)) where
+    module _ (r : Bool) (d : Decides r (LegalCells maxMembers maxWires m b)) where
       pub move-refused : not r ≡ true → CarriesOut n m b m (Refused badMove 0)
       unfolding judge
       move-refused h =
-          let none : LegalBytes maxMembers n m b → ⊥ = λ g. denied r d h (on-all g) in
+          let none : LegalCells maxMembers n m b → ⊥ = λ g. denied r d h (on-all g) in
           record {
             reply = ap (λ (x : Bool). cond x Done (Refused badMove 0)) (sym (move-no maxMembers n m b none)) ∙ by-move;
             judged = λ z. inr (refl, none);
@@ -89,13 +89,13 @@ module _ (n : ℕ) (m b : List ℕ) (f : ℕ) (e : f ≡ carryFault n m) where
         pub move-form : MoveForm maxMembers b
         move-form = legal-said maxMembers maxWires m b (granted r d h) .0
 
-        legal : LegalBytes maxMembers n m b
+        legal : LegalCells maxMembers n m b
         legal = on-these (granted r d h)
 
         said : Legal maxMembers n m (zOf b) (setOf b)
         said = legal-said maxMembers n m b legal .1
 
-        room : 2 ^ n ≤ weightBytes
+        room : 2 ^ n ≤ parities
         room = pow-mono {i = n} {j = maxWires} (passed .1)
 
         pub carried-out : (Y m′ : List ℕ) → Y ≡ setOf b → m′ ≡ carryOut m (zOf b) Y → CarriesOut n m b m′ Done
@@ -106,7 +106,7 @@ module _ (n : ℕ) (m b : List ℕ) (f : ℕ) (e : f ≡ carryFault n m) where
               reply = ap (λ (x : Bool). cond x Done (Refused badMove 0)) (sym (move-yes maxMembers n m b legal)) ∙ by-move;
               judged = λ z. inl (refl, legal);
               marks-left = q;
-              signature = λ _. rw q (move-keeps-signature weightBytes n maxMembers room m sound-marks (zOf b) (setOf b) said);
-              sound = λ _. rw q (move-leaves-sound weightBytes n maxMembers room m sound-marks (zOf b) (setOf b) said);
-              smaller = λ _. rw q (move-shrinks weightBytes n maxMembers room m sound-marks (zOf b) (setOf b) said);
+              signature = λ _. rw q (move-keeps-signature parities n maxMembers room m sound-marks (zOf b) (setOf b) said);
+              sound = λ _. rw q (move-leaves-sound parities n maxMembers room m sound-marks (zOf b) (setOf b) said);
+              smaller = λ _. rw q (move-shrinks parities n maxMembers room m sound-marks (zOf b) (setOf b) said);
             }

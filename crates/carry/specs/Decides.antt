@@ -11,15 +11,15 @@ use Rattle.moves.specs.Sets.{In}
 abbrev pub Decides : Bool → Type 0 → Type 0
 Decides r P = (r ≡ true → P) × (r ≡ false → P → ⊥)
 
--- the bytes from a place on are zeros
+-- the cells from a place on are zeros
 abbrev pub ZeroFrom : ℕ → List ℕ → Type 0
-ZeroFrom start bytes = (i : ℕ) → start ≤ i → i < length bytes → getD bytes i 0 ≡ 0
+ZeroFrom start cells = (i : ℕ) → start ≤ i → i < length cells → getD cells i 0 ≡ 0
 
--- the bytes of some move: z, the number in Y, at most `most` in Y, zeros
-pub record MoveForm (most : ℕ) (bytes : List ℕ) : Type 0 where
-  pub long : length bytes ≡ most + 2
-  pub few : getD bytes 1 0 ≤ most
-  pub zeros : ZeroFrom (getD bytes 1 0 + 2) bytes
+-- the cells of some move: z, the number in Y, at most `most` in Y, zeros
+pub record MoveForm (most : ℕ) (cells : List ℕ) : Type 0 where
+  pub long : length cells ≡ most + 2
+  pub few : getD cells 1 0 ≤ most
+  pub zeros : ZeroFrom (getD cells 1 0 + 2) cells
 
 -- all of Y are members
 abbrev pub AllMembers : List ℕ → List ℕ → Type 0

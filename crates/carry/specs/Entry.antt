@@ -7,38 +7,38 @@ use Prim.Native.Nat.{_+_, _≤_, ℕ}
 use lib.ListN.{length}
 use Rattle.circuit.specs.Entry.{after}
 use Rattle.circuit.specs.Faults.{lentFault, refuse}
-use Rattle.circuit.specs.Limits.{maxMembers, weightBytes}
+use Rattle.circuit.specs.Limits.{maxMembers, parities, tableBytes}
 use Rattle.circuit.specs.OddSet.{members}
 use Rattle.circuit.specs.Sound.{SoundMarks}
 use Rattle.circuit.specs.declared.Reply.{Reply}
 use Rattle.circuit.specs.declared.Reply.the-variants.{Done, Refused}
 use Rattle.moves.specs.CarryOut.{carryOut}
 use Rattle.moves.specs.Decide.{isMove}
-use Rattle.moves.specs.Log.{LegalBytes, setOf, zOf}
+use Rattle.moves.specs.Log.{LegalCells, setOf, zOf}
 use Rattle.phase.specs.Signature.{SameSignature}
 use Rattle.weights.specs.Faults.{callFault, marksFault}
 
--- document 01, "Faults": forty bytes not a legal move for this odd set, or not forty
+-- document 01, "Faults": cells that are no legal move for this odd set, or another number of them
 abbrev pub badMove : ℕ
 badMove = 10
 
 -- 1, 8 and 6: the marks are input and output, so a wrong length gives 8, a wrong mark 6
 abbrev pub carryFault : ℕ → List ℕ → ℕ
-carryFault n marks = callFault n (lentFault (length marks) weightBytes) (marksFault n marks)
+carryFault n marks = callFault n (lentFault (length marks) tableBytes) (marksFault n marks)
 
 -- the reply, from what goes in alone: 1, 8, 6, 10
 abbrev pub carryReply : ℕ → List ℕ → List ℕ → Reply
-carryReply n marks bytes = refuse (carryFault n marks) 0 (cond (isMove maxMembers n marks bytes) Done (Refused badMove 0))
+carryReply n marks cells = refuse (carryFault n marks) 0 (cond (isMove maxMembers n marks cells) Done (Refused badMove 0))
 
--- `carry_out`, called with these marks and bytes, replies r and leaves marks′
-pub record CarriesOut (n : ℕ) (marks bytes marks′ : List ℕ) (r : Reply) : Type 0 where
-  pub reply : r ≡ carryReply n marks bytes
-  -- without 1, 8 and 6: done exactly if the bytes are a legal move for these marks
+-- `carry_out`, called with these marks and cells, replies r and leaves marks′
+pub record CarriesOut (n : ℕ) (marks cells marks′ : List ℕ) (r : Reply) : Type 0 where
+  pub reply : r ≡ carryReply n marks cells
+  -- without 1, 8 and 6: done exactly if the cells are a legal move for these marks
   pub judged : carryFault n marks ≡ 0
-      → ((r ≡ Done) × LegalBytes maxMembers n marks bytes) ⊎ ((r ≡ Refused badMove 0) × (LegalBytes maxMembers n marks bytes → ⊥))
-  -- the move that the bytes say, carried out; or as they were
-  pub marks-left : marks′ ≡ after r (carryOut marks (zOf bytes) (setOf bytes)) marks
+      → ((r ≡ Done) × LegalCells maxMembers n marks cells) ⊎ ((r ≡ Refused badMove 0) × (LegalCells maxMembers n marks cells → ⊥))
+  -- the move that the cells say, carried out; or as they were
+  pub marks-left : marks′ ≡ after r (carryOut marks (zOf cells) (setOf cells)) marks
   -- the signature stays; the marks are sound again; the odd set shrinks by one at least
   pub signature : r ≡ Done → SameSignature n marks′ marks
-  pub sound : r ≡ Done → SoundMarks weightBytes n marks′
+  pub sound : r ≡ Done → SoundMarks parities n marks′
   pub smaller : r ≡ Done → members marks′ + 1 ≤ members marks

@@ -1,15 +1,15 @@
-// Whether forty bytes are a legal move for these marks (document 01, "Legal moves"): one function for each condition, one loop in each.
+// Whether cells are a legal move for these marks (document 01, "Legal moves"): one function for each condition, one loop in each.
 ghost use mathlib.Core.Logic.{_≢_};
 ghost use mathlib.Core.Path.{_≡_};
 ghost use Prim.Native.Nat.{_≤_};
 ghost use lib.ListN.{length};
-ghost use Rattle.circuit.specs.Limits.{maxMembers, maxWires, weightBytes};
-ghost use Rattle.moves.specs.Log.{LegalBytes, setOf};
+ghost use Rattle.circuit.specs.Limits.{maxMembers, maxWires, tableBytes};
+ghost use Rattle.moves.specs.Log.{LegalCells, setOf};
 ghost use Rattle.moves.specs.Move.{Balanced, Legal, Member, Separates};
 ghost use Rattle.moves.specs.Sets.{Ascending, In};
 ghost use Rattle.carry.specs.Decides.{AllMembers, Decides, MoveForm, Outside, ZeroFrom};
 use circuit::limits::MAX_MEMBERS;
-use circuit::limits::MOVE_BYTES;
+use circuit::limits::MOVE_CELLS;
 use circuit::limits::MOVE_HEAD;
 use circuit::limits::Parity;
 use circuit::parity::lowest;
@@ -17,45 +17,45 @@ use columns::column;
 use columns::table::products;
 
 // Legality on all wires; for marks of fewer it is the same. Internal: the caller has found no fault in the marks.
-pub fn is_move(marks: &[u8], bytes: &[u8]) -> bool
-    requires { ⌜ length (now marks) ≡ weightBytes ⌝ }
-    ensures { λ r. ⌜ Decides r (LegalBytes maxMembers maxWires (now (marks .entry)) (now (bytes .entry))) ⌝ }
+pub fn is_move(marks: &[u8], cells: &[u8]) -> bool
+    requires { ⌜ length (now marks) ≡ tableBytes ⌝ }
+    ensures { λ r. ⌜ Decides r (LegalCells maxMembers maxWires (now (marks .entry)) (now (cells .entry))) ⌝ }
 {
-    if !has_form(bytes) {
+    if !has_form(cells) {
         return false;
     }
-    is_legal(marks, bytes[0], set_of(bytes))
+    is_legal(marks, cells[0], set_of(cells))
 }
 
-// The set Y, as part of the bytes of a move. Internal: the bytes have the form of one.
-pub fn set_of(bytes: &[u8]) -> &[u8]
-    requires { ⌜ MoveForm maxMembers (now bytes) ⌝ }
-    ensures { λ r. ⌜ now r ≡ setOf (now (bytes .entry)) ⌝ }
+// The set Y, as part of the cells of a move. Internal: the cells have the form of one.
+pub fn set_of(cells: &[u8]) -> &[u8]
+    requires { ⌜ MoveForm maxMembers (now cells) ⌝ }
+    ensures { λ r. ⌜ now r ≡ setOf (now (cells .entry)) ⌝ }
 {
-    let end = bytes[1] as usize + MOVE_HEAD;
-    &bytes[MOVE_HEAD..end]
+    let end = cells[1] as usize + MOVE_HEAD;
+    &cells[MOVE_HEAD..end]
 }
 
 // z, the number in Y, Y, zeros.
-fn has_form(bytes: &[u8]) -> bool
-    ensures { λ r. ⌜ Decides r (MoveForm maxMembers (now (bytes .entry))) ⌝ }
+fn has_form(cells: &[u8]) -> bool
+    ensures { λ r. ⌜ Decides r (MoveForm maxMembers (now (cells .entry))) ⌝ }
 {
-    if bytes.len() != MOVE_BYTES {
+    if cells.len() != MOVE_CELLS {
         return false;
     }
-    let count = bytes[1] as usize;
+    let count = cells[1] as usize;
     if count > MAX_MEMBERS {
         return false;
     }
-    zero_from(bytes, count + MOVE_HEAD)
+    zero_from(cells, count + MOVE_HEAD)
 }
 
-fn zero_from(bytes: &[u8], from: usize) -> bool
-    ensures { λ r. ⌜ Decides r (ZeroFrom from (now (bytes .entry))) ⌝ }
+fn zero_from(cells: &[u8], from: usize) -> bool
+    ensures { λ r. ⌜ Decides r (ZeroFrom from (now (cells .entry))) ⌝ }
 {
     let mut i = from;
-    while i < bytes.len() {
-        if bytes[i] != 0 {
+    while i < cells.len() {
+        if cells[i] != 0 {
             return false;
         }
         i += 1;
@@ -64,7 +64,7 @@ fn zero_from(bytes: &[u8], from: usize) -> bool
 }
 
 fn is_legal(marks: &[u8], z: Parity, ys: &[u8]) -> bool
-    requires { ⌜ (length (now marks) ≡ weightBytes) × (length (now ys) ≤ maxMembers) ⌝ }
+    requires { ⌜ (length (now marks) ≡ tableBytes) × (length (now ys) ≤ maxMembers) ⌝ }
     ensures { λ r. ⌜ Decides r (Legal maxMembers maxWires (now (marks .entry)) z (now (ys .entry))) ⌝ }
 {
     if !is_ascending(ys) {
@@ -94,7 +94,7 @@ fn is_ascending(ys: &[u8]) -> bool
 }
 
 fn are_members(marks: &[u8], ys: &[u8]) -> bool
-    requires { ⌜ length (now marks) ≡ weightBytes ⌝ }
+    requires { ⌜ length (now marks) ≡ tableBytes ⌝ }
     ensures { λ r. ⌜ Decides r (AllMembers (now (marks .entry)) (now (ys .entry))) ⌝ }
 {
     let mut i: usize = 0;
@@ -108,7 +108,7 @@ fn are_members(marks: &[u8], ys: &[u8]) -> bool
 }
 
 fn is_member(marks: &[u8], p: Parity) -> bool
-    requires { ⌜ length (now marks) ≡ weightBytes ⌝ }
+    requires { ⌜ length (now marks) ≡ tableBytes ⌝ }
     ensures { λ r. ⌜ Decides r (Member (now (marks .entry)) p) ⌝ }
 {
     marks[p as usize] == 1
@@ -116,7 +116,7 @@ fn is_member(marks: &[u8], p: Parity) -> bool
 
 // z is a ^ b for some a in Y and some member b not in Y.
 fn separates(marks: &[u8], z: Parity, ys: &[u8]) -> bool
-    requires { ⌜ length (now marks) ≡ weightBytes ⌝ }
+    requires { ⌜ length (now marks) ≡ tableBytes ⌝ }
     ensures { λ r. ⌜ Decides r (Separates (now (marks .entry)) z (now (ys .entry))) ⌝ }
 {
     let mut i: usize = 0;
@@ -131,7 +131,7 @@ fn separates(marks: &[u8], z: Parity, ys: &[u8]) -> bool
 
 // A member that is not in Y.
 fn is_outside(marks: &[u8], ys: &[u8], b: Parity) -> bool
-    requires { ⌜ length (now marks) ≡ weightBytes ⌝ }
+    requires { ⌜ length (now marks) ≡ tableBytes ⌝ }
     ensures { λ r. ⌜ Decides r (Outside (now (marks .entry)) (now (ys .entry)) b) ⌝ }
 {
     if !is_member(marks, b) {

@@ -10,7 +10,7 @@ use native.Mathlib.Omega.{arith}
 use borrow.Author.Tests.{eq-eqb, le-leb, lt-leb, ne-eqb}
 use Rattle.circuit.specs.Faults.{AllWellFormed, FirstFault, Has, KindHas, KindWellFormed, WellFormed, cnotFault, firstFault, gateAt, gateFault, gateWire, kindFault, lentFault, listFault, orElse, phaseFault, readFault, refuse, sameWire, shortFault, wiresFault}
 use Rattle.circuit.specs.Gate.{Gate, gate, kindOf}
-use Rattle.circuit.specs.Limits.{gateBytes, maxListBytes, maxWires, rowBytes, weightBytes}
+use Rattle.circuit.specs.Limits.{gateBytes, maxListBytes, maxWires, parities, rowCells, tableBytes}
 use Rattle.circuit.specs.declared.gates.Kind.{Kind}
 use Rattle.circuit.specs.declared.gates.Kind.the-variants.{Cnot, Phase, Unknown}
 use Rattle.circuit.specs.declared.Reply.{Reply}
@@ -74,16 +74,16 @@ pub record Called (n m weights rows : ℕ) : Type 0 where
   pub few : n ≤ maxWires
   pub whole : m % gateBytes ≡ 0
   pub short : m ≤ maxListBytes
-  pub weights-long : weights ≡ weightBytes
-  pub rows-long : rows ≡ rowBytes
+  pub weights-long : weights ≡ parities
+  pub rows-long : rows ≡ rowCells
 
 pub call-passes : (n m weights rows : ℕ) → readFault n m weights rows ≡ 0 → Called n m weights rows
 unfolding readFault
 call-passes n m weights rows e =
-    let lent : ℕ = orElse (lentFault weights weightBytes) (lentFault rows rowBytes) in
+    let lent : ℕ = orElse (lentFault weights tableBytes) (lentFault rows rowCells) in
     let a = or-pass (wiresFault n) (orElse (listFault m) lent) e in
     let b = or-pass (listFault m) lent (a .1) in
-    let d = or-pass (lentFault weights weightBytes) (lentFault rows rowBytes) (b .1) in
+    let d = or-pass (lentFault weights tableBytes) (lentFault rows rowCells) (b .1) in
     let w = wires-pass n (a .0) in
     let l = list-pass m (b .0) in
     record {
@@ -91,8 +91,8 @@ call-passes n m weights rows e =
       few = w .1;
       whole = l .0;
       short = l .1;
-      weights-long = lent-pass weights weightBytes (d .0);
-      rows-long = lent-pass rows rowBytes (d .1);
+      weights-long = lent-pass weights tableBytes (d .0);
+      rows-long = lent-pass rows rowCells (d .1);
     }
 
 pub passes-call : (n m weights rows : ℕ) → Called n m weights rows → readFault n m weights rows ≡ 0
@@ -100,7 +100,7 @@ unfolding readFault
 passes-call n m weights rows c =
     or-well _ _ (wires-well n (c .some) (c .few))
     (or-well _ _ (list-well m (c .whole) (c .short))
-    (or-well _ _ (lent-well weights weightBytes (c .weights-long)) (lent-well rows rowBytes (c .rows-long))))
+    (or-well _ _ (lent-well weights tableBytes (c .weights-long)) (lent-well rows rowCells (c .rows-long))))
 
 -- ---- a gate
 

@@ -13,7 +13,7 @@ use Rattle.circuit.proofs.Steps.{tables}
 use Rattle.circuit.specs.Entry.{ReadList, readBytes, readReply}
 use Rattle.circuit.specs.Faults.{Accepted, AllWellFormed, FirstFault, WellFormed, firstFault, readFault}
 use Rattle.circuit.specs.Gate.{Gate, gate, gatesOf, isT, tGates}
-use Rattle.circuit.specs.Limits.{maxWires, rowBytes, weightBytes}
+use Rattle.circuit.specs.Limits.{maxWires, parities, rowCells}
 use Rattle.circuit.specs.OddSet.{members, oddSet}
 use Rattle.circuit.specs.Read.{Reading, read}
 use Rattle.circuit.specs.Run.{run}
@@ -44,13 +44,13 @@ odd-set-no-larger = odd-set-at-most-t
 -- ---- demand 1: the reply of `read`
 
 -- an accepted list is read: nothing sound is refused
-pub accepted-is-read : (n : ℕ) (bytes : List ℕ) (weights rows : ℕ) → Accepted n bytes → weights ≡ weightBytes → rows ≡ rowBytes → readReply n bytes weights rows ≡ Done
+pub accepted-is-read : (n : ℕ) (bytes : List ℕ) (weights rows : ℕ) → Accepted n bytes → weights ≡ parities → rows ≡ rowCells → readReply n bytes weights rows ≡ Done
 accepted-is-read n bytes weights rows a w r =
     rw (passes-call n (length bytes) weights rows (record { some = a .some; few = a .few; whole = a .whole; short = a .short; weights-long = w; rows-long = r }))
     (formed-done n 0 (gatesOf bytes) (a .formed))
 
 -- what is read is accepted: nothing faulty is
-pub read-is-accepted : (n : ℕ) (bytes : List ℕ) (weights rows : ℕ) → readReply n bytes weights rows ≡ Done → Accepted n bytes × (weights ≡ weightBytes) × (rows ≡ rowBytes)
+pub read-is-accepted : (n : ℕ) (bytes : List ℕ) (weights rows : ℕ) → readReply n bytes weights rows ≡ Done → Accepted n bytes × (weights ≡ parities) × (rows ≡ rowCells)
 read-is-accepted n bytes weights rows e =
     let t = refuse-done (readFault n (length bytes) weights rows) 0 (firstFault n 0 (gatesOf bytes)) e in
     let c = call-passes n (length bytes) weights rows (t .0) in

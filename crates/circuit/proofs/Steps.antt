@@ -46,8 +46,13 @@ tables w rows = record { weights = w; rows = rows }
 abbrev pub ReadTo : ℕ → ℕ → List ℕ → Reading → ℕ → Reading → Type 0
 ReadTo N n bytes whole i r = AllWellFormed n (gatesFrom bytes i) × SoundReading N n r × (readFrom (gatesFrom bytes i) r ≡ whole)
 
-module _ (N n : ℕ) (fit : n ≤ N) (bytes : List ℕ) (whole : Reading) (i : ℕ) (inside : 3 * i + 2 < length bytes) (w rows : List ℕ)
-    (to : ReadTo N n bytes whole i (tables w rows)) where
+-- a turn at gate i, with the tables so far
+pub record Turn (N n : ℕ) (bytes : List ℕ) (whole : Reading) (i : ℕ) (w rows : List ℕ) : Type 0 where
+  pub fit : n ≤ N
+  pub inside : 3 * i + 2 < length bytes
+  pub to : ReadTo N n bytes whole i (tables w rows)
+
+module _ {N n : ℕ} {bytes : List ℕ} {whole : Reading} {i : ℕ} {w rows : List ℕ} (turn : Turn N n bytes whole i w rows) where
   abbrev kind : ℕ
   kind = getD bytes (3 * i) 0
 
@@ -58,7 +63,7 @@ module _ (N n : ℕ) (fit : n ≤ N) (bytes : List ℕ) (whole : Reading) (i : �
   b = getD bytes (3 * i + 2) 0
 
   step : AllWellFormed n (gate kind a b ∷ gatesFrom bytes (i + 1))
-  step = rw (gates-step bytes i inside) at (to .0)
+  step = rw (gates-step bytes i (turn .inside)) at (turn .to .0)
 
   -- its kind byte says k
   module _ (k : Kind) (is : k ≡ kindOf kind) where
@@ -70,8 +75,8 @@ module _ (N n : ℕ) (fit : n ≤ N) (bytes : List ℕ) (whole : Reading) (i : �
     read-on r e =
         rw (e, is) (
           step .1,
-          gate-keeps N n fit (gate kind a b) (tables w rows) (step .0) (to .1),
-          sym (ap (λ (gs : List Gate). readFrom gs (tables w rows)) (gates-step bytes i inside)) ∙ to .2,
+          gate-keeps N n (turn .fit) (gate kind a b) (tables w rows) (step .0) (turn .to .1),
+          sym (ap (λ (gs : List Gate). readFrom gs (tables w rows)) (gates-step bytes i (turn .inside))) ∙ turn .to .2,
         )
 
   module _ (is : Cnot ≡ kindOf kind) where

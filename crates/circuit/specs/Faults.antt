@@ -6,7 +6,7 @@ use Prim.Native.Nat.{_%_, _<_, suc, zero, ℕ, _≤_}
 use lib.Dec.{eqb, leb}
 use lib.ListN.{getD, length}
 use Rattle.circuit.specs.Gate.{Gate, gate, gatesOf, kindOf}
-use Rattle.circuit.specs.Limits.{gateBytes, maxListBytes, maxWires, rowBytes, weightBytes}
+use Rattle.circuit.specs.Limits.{gateBytes, maxListBytes, maxWires, rowCells, tableBytes}
 use Rattle.circuit.specs.Read.{either}
 use Rattle.circuit.specs.declared.gates.Kind.{Kind}
 use Rattle.circuit.specs.declared.gates.Kind.the-variants.{Cnot, Phase, Unknown}
@@ -133,4 +133,4 @@ shortFault bytes wanted = either (leb wanted bytes) 0 lentOutput
 -- 1, 2 and 8 of a call that reads a list, by the lengths of the list, the weights and the rows
 unfoldable pub readFault : ℕ → ℕ → ℕ → ℕ → ℕ
 readFault n bytes weights rows =
-    orElse (wiresFault n) (orElse (listFault bytes) (orElse (lentFault weights weightBytes) (lentFault rows rowBytes)))
+    orElse (wiresFault n) (orElse (listFault bytes) (orElse (lentFault weights tableBytes) (lentFault rows rowCells)))

@@ -1,4 +1,5 @@
--- The numbers of document 01, each once. Every law takes the wire count n, and N for the most wires, as a parameter: only contracts cite these.
+-- The numbers of document 01, each once, and what follows from them. Every law takes the wire count n, and N for the most wires, as a parameter:
+-- only contracts cite these.
 use Prim.Native.Nat.{_*_, _+_, _-_, _/_, _^_, ℕ}
 
 -- a wire count is 1 to 8
@@ -16,32 +17,41 @@ maxGates = 4096
 abbrev pub maxListBytes : ℕ
 maxListBytes = gateBytes * maxGates
 
--- the weights, and the marks of an odd set: one byte for each parity
-abbrev pub weightBytes : ℕ
-weightBytes = 2 ^ maxWires
+-- a parity is a number below this
+abbrev pub parities : ℕ
+parities = 2 ^ maxWires
 
--- the rows: one for each wire
-abbrev pub rowBytes : ℕ
-rowBytes = maxWires
+-- the weights, and the marks of an odd set: one byte for each parity
+abbrev pub tableBytes : ℕ
+tableBytes = parities
+
+-- the rows: one parity for each wire
+abbrev pub rowCells : ℕ
+rowCells = maxWires
 
 -- a product entry: one bit for each pair of wires i ≤ j
 abbrev pub productBits : ℕ
 productBits = maxWires * (maxWires + 1) / 2
 
--- the set Y of a move has at most 38 members
+-- the most members of the set Y of a move
 abbrev pub maxMembers : ℕ
-maxMembers = 38
+maxMembers = productBits + 2
 
--- a move takes forty bytes: z, the number in Y, and Y
-abbrev pub moveBytes : ℕ
-moveBytes = maxMembers + 2
+-- what stands before Y in the cells of a move: z and the number in Y
+abbrev pub moveHead : ℕ
+moveHead = 2
+
+-- the cells of a move: z, the number in Y, and Y
+abbrev pub moveCells : ℕ
+moveCells = maxMembers + moveHead
 
 -- each move takes a member from the odd set, which never has parity 0
 abbrev pub maxMoves : ℕ
-maxMoves = weightBytes - 1
+maxMoves = parities - 1
 
-abbrev pub logBytes : ℕ
-logBytes = moveBytes * maxMoves
+-- the longest log
+abbrev pub logCells : ℕ
+logCells = moveCells * maxMoves
 
 -- the coefficients of two wires, and of three: one byte for each two, and for each three
 abbrev pub pairBytes : ℕ

@@ -8,8 +8,8 @@ use crate::gates::kind_of;
 use crate::limits::GATE_BYTES;
 use crate::limits::MAX_LIST_BYTES;
 use crate::limits::MAX_WIRES;
-use crate::limits::ROW_BYTES;
-use crate::limits::WEIGHT_BYTES;
+use crate::limits::ROW_CELLS;
+use crate::limits::TABLE_BYTES;
 
 pub const WIRE_COUNT: u8 = 1;
 
@@ -75,8 +75,8 @@ pub fn read_fault(n: usize, bytes: usize, weights: usize, rows: usize) -> u8
     ensures { λ r. ⌜ r ≡ readFault n bytes weights rows ⌝ }
 {
     let lent = or_else(
-        lent_fault(weights, WEIGHT_BYTES),
-        lent_fault(rows, ROW_BYTES),
+        lent_fault(weights, TABLE_BYTES),
+        lent_fault(rows, ROW_CELLS),
     );
     or_else(wires_fault(n), or_else(list_fault(bytes), lent))
 }

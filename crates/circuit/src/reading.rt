@@ -1,7 +1,7 @@
 // Reading gates that have no fault into weights and rows (document 01, "Weights and rows").
 ghost use mathlib.Core.Path.{_≡_};
 ghost use Prim.Native.Nat.{_+_, _%_, _<_, _≤_};
-ghost use Rattle.circuit.specs.Limits.{maxWires, weightBytes};
+ghost use Rattle.circuit.specs.Limits.{maxWires, parities};
 ghost use Rattle.circuit.specs.Gate.{gatesOf};
 ghost use Rattle.circuit.specs.Read.{start, firstRow};
 ghost use Rattle.circuit.specs.Faults.{AllWellFormed};
@@ -10,13 +10,13 @@ use crate::gates::Kind;
 use crate::gates::kind_of;
 use crate::limits::GATE_BYTES;
 use crate::limits::Parity;
-use crate::limits::ROW_BYTES;
-use crate::limits::WEIGHT_BYTES;
+use crate::limits::ROW_CELLS;
+use crate::limits::TABLE_BYTES;
 use crate::limits::Weight;
 
 pub struct Tables {
-    pub weights: [Weight; WEIGHT_BYTES],
-    pub rows: [Parity; ROW_BYTES],
+    pub weights: [Weight; TABLE_BYTES],
+    pub rows: [Parity; ROW_CELLS],
 }
 
 // The weights and rows of a list. Each gate changes them in place. Internal: the caller has found no fault.
@@ -55,11 +55,11 @@ pub fn read_gates(n: usize, gates: &[u8]) -> Tables
 fn first_tables(n: usize) -> Tables
     ensures { λ r. ⌜ readingOf r ≡ start maxWires n ⌝ }
 {
-    let mut rows = [0 as Parity; ROW_BYTES];
-    for i in 0..ROW_BYTES {
+    let mut rows = [0 as Parity; ROW_CELLS];
+    for i in 0..ROW_CELLS {
         rows[i] = first_row(n, i);
     }
-    let weights = [0 as Weight; WEIGHT_BYTES];
+    let weights = [0 as Weight; TABLE_BYTES];
     Tables {
         weights: weights,
         rows: rows,
@@ -83,7 +83,7 @@ fn add_phase(w: Weight, v: u8) -> Weight
 
 // A parity or a wire as a place in a table.
 fn index_of(p: Parity) -> usize
-    ensures { λ r. ⌜ (r ≡ p) × (r < weightBytes) ⌝ }
+    ensures { λ r. ⌜ (r ≡ p) × (r < parities) ⌝ }
 {
     p as usize
 }

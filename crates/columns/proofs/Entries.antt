@@ -6,7 +6,7 @@ use Prim.Native.Nat.{_*_, _+_, _<_, _^_, suc, ℕ}
 use native.Mathlib.Omega.{arith}
 use lib.Dec.{T, eqb, eqb→eq, ltb, ltb→lt}
 use lib.ListN.{getD, length}
-use Rattle.circuit.specs.Limits.{maxWires, productBits, weightBytes}
+use Rattle.circuit.specs.Limits.{maxWires, parities, productBits}
 use Rattle.gf2.specs.Bit.{bit}
 use Rattle.moves.proofs.Products.{product-by-bits}
 use Rattle.moves.specs.Product.{product, tri}
@@ -34,7 +34,7 @@ entry-at xs t p h =
     }
 
 -- a list of this many entries that passes the test is the product table
-pub table-by : (xs : List ℕ) → length xs ≡ weightBytes → T (every entryRight 0 xs) → ProductTable xs
+pub table-by : (xs : List ℕ) → length xs ≡ parities → T (every entryRight 0 xs) → ProductTable xs
 table-by xs e t = record { long = e; entries = λ p h. entry-at xs t p (rw e h) }
 
 -- a number with this rule is the entry

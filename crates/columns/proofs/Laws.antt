@@ -3,7 +3,7 @@ use mathlib.Core.List.{List}
 use mathlib.Core.Path.{_≡_}
 use Prim.Native.Nat.{_<_, _^_, _≤_, ℕ}
 use lib.ListN.{getD}
-use Rattle.circuit.specs.Limits.{maxWires, weightBytes}
+use Rattle.circuit.specs.Limits.{maxWires, parities}
 use Rattle.moves.specs.Kappa.{kappa}
 use Rattle.moves.specs.Product.{product}
 use Rattle.columns.proofs.Entries.{entry-is}
@@ -15,7 +15,7 @@ pub entry-is-product : (p r : ℕ) → ProductEntry p r → r ≡ product maxWir
 entry-is-product = entry-is
 
 -- `products`: entry p of the table is that of p
-pub table-is-products : (products : List ℕ) → ProductTable products → (p : ℕ) → p < weightBytes → getD products p 0 ≡ product maxWires p
+pub table-is-products : (products : List ℕ) → ProductTable products → (p : ℕ) → p < parities → getD products p 0 ≡ product maxWires p
 table-is-products products table p h = entry-is p (getD products p 0) (table .entries p h)
 
 -- `column`: that of n wires is the same

@@ -9,12 +9,12 @@ ghost use Rattle.columns.specs.Table.{ProductTable};
 
 pub mod table;
 
+use circuit::limits::PARITIES;
 use circuit::limits::Parity;
-use circuit::limits::WEIGHT_BYTES;
 use table::product;
 
 // The column of y for z and its wire t: the product entry of y or, where y names t, of y ^ z, with the bit of (t, t) then set.
-pub fn column(products: &[u64; WEIGHT_BYTES], z: Parity, t: usize, y: Parity) -> u64
+pub fn column(products: &[u64; PARITIES], z: Parity, t: usize, y: Parity) -> u64
     requires { ⌜ ProductTable (now products) ⌝ }
     requires { ⌜ t < maxWires ⌝ }
     ensures { λ r. ⌜ (r ≡ kappa maxWires z t y) × (r < 2 ^ productBits) ⌝ }

@@ -1,9 +1,9 @@
 // The product table (document 01, "Signature"): a fixed entry for each parity, of one bit for each pair of wires i <= j.
 ghost use Rattle.columns.specs.Table.{ProductEntry, ProductTable};
+use circuit::limits::PARITIES;
 use circuit::limits::Parity;
-use circuit::limits::WEIGHT_BYTES;
 
-const PRODUCTS: [u64; WEIGHT_BYTES] = [
+const PRODUCTS: [u64; PARITIES] = [
     0,
     1,
     4,
@@ -263,14 +263,14 @@ const PRODUCTS: [u64; WEIGHT_BYTES] = [
 ];
 
 // The table laid out for a caller, who makes it once and lends it from then on.
-pub fn products() -> [u64; WEIGHT_BYTES]
+pub fn products() -> [u64; PARITIES]
     ensures { λ r. ⌜ ProductTable r ⌝ }
 {
     PRODUCTS
 }
 
 // Bit j (j + 1) / 2 + i of entry p is set when p names both i and j.
-pub fn product(products: &[u64; WEIGHT_BYTES], p: Parity) -> u64
+pub fn product(products: &[u64; PARITIES], p: Parity) -> u64
     requires { ⌜ ProductTable (now products) ⌝ }
     ensures { λ r. ⌜ ProductEntry p r ⌝ }
 {

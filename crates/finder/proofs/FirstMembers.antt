@@ -9,7 +9,7 @@ use native.Mathlib.Nat.{le-refl, mul-one}
 use native.Mathlib.Omega.{arith}
 use lib.ListN.{List·getD-eq-default, drop, getD, length, take, take-append-drop}
 use lib.Seq.{getD-take, length-take-le, take-all, take-take}
-use Rattle.circuit.specs.Limits.{maxMembers, maxWires, productBits, weightBytes}
+use Rattle.circuit.specs.Limits.{maxMembers, maxWires, parities, productBits}
 use Rattle.circuit.specs.OddSet.{members}
 use Rattle.circuit.specs.Sound.{SoundMarks, weight}
 use Rattle.gf2.proofs.Over.{length-sumOver, sumOver-append}
@@ -43,29 +43,29 @@ legal-more most n marks more le bits z Y g =
     member : (p : ℕ) → Member marks p → Member more p
     member p m = omega (arith, le p, bits p)
 
-marks-long : (ys : List ℕ) → length (marksOf ys) ≡ weightBytes
+marks-long : (ys : List ℕ) → length (marksOf ys) ≡ parities
 unfolding marksOf
-marks-long ys = length-tabulate weightBytes (λ p. occ p ys)
+marks-long ys = length-tabulate parities (λ p. occ p ys)
 
 -- the marks of a list of members are as many as the list has
 members-listed : (ys : List ℕ) → Members ys → members (marksOf ys) ≡ length ys
 unfolding members
 members-listed ys h =
     rw (marks-long ys)
-    (sum-ext weightBytes (λ p. getD (marksOf ys) p 0) (λ p. occ p ys * 1) (λ p l. mark-of ys p l ∙ sym (mul-one (occ p ys)))
-    ∙ sym (sumOver-occ weightBytes (λ y. 1) ys (h .below)) ∙ sym (length-sumOver ys))
+    (sum-ext parities (λ p. getD (marksOf ys) p 0) (λ p. occ p ys * 1) (λ p l. mark-of ys p l ∙ sym (mul-one (occ p ys)))
+    ∙ sym (sumOver-occ parities (λ y. 1) ys (h .below)) ∙ sym (length-sumOver ys))
 
 module _ (k : ℕ) (ys : List ℕ) (h : Members ys) (fits : k ≤ length ys) where
   long : length (take k ys) ≡ k
   long = length-take-le k ys fits
 
   first-le : (p : ℕ) → weight (marksOf (take k ys)) p ≤ weight (marksOf ys) p
-  first-le p = go (decLt p weightBytes)
+  first-le p = go (decLt p parities)
     where
       fewer : occ p (take k ys) ≤ occ p ys
       fewer = omega (arith, sumOver-append (delta p) (take k ys) (drop k ys), ap (occ p) (take-append-drop k ys))
 
-      go : Dec (p < weightBytes) → weight (marksOf (take k ys)) p ≤ weight (marksOf ys) p
+      go : Dec (p < parities) → weight (marksOf (take k ys)) p ≤ weight (marksOf ys) p
       go (yes l) = omega (arith, mark-of (take k ys) p l, mark-of ys p l, fewer)
       go (no l) = omega (arith, List·getD-eq-default (marksOf (take k ys)) 0 {n = p} (omega (arith, marks-long (take k ys))))
 
@@ -89,22 +89,22 @@ module _ (k : ℕ) (ys : List ℕ) (h : Members ys) (fits : k ≤ length ys) whe
   all-or-none (inl e) none = subst (λ (l : List ℕ). (z : ℕ) (Y : List ℕ) → Legal maxMembers maxWires (marksOf l) z Y → ⊥) (take-all k ys (omega arith)) none
   all-or-none (inr l) none =
       let s = limits-suffice maxWires (le-refl _) in
-      absurd (omega (arith, bound weightBytes maxWires maxMembers (marksOf (take k ys)) (first-members .sound) (s .1) none, s .2, members-listed (take k ys) first-members, long))
+      absurd (omega (arith, bound parities maxWires maxMembers (marksOf (take k ys)) (first-members .sound) (s .1) none, s .2, members-listed (take k ys) first-members, long))
 
   -- what was found of the first is found of all
-  pub first-search : Enough (length ys) k → (bytes bytes′ : List ℕ) (r : Offered) → Searched (marksOf (take k ys)) bytes bytes′ r → Searched (marksOf ys) bytes bytes′ r
-  first-search e bytes bytes′ Separating s =
+  pub first-search : Enough (length ys) k → (cells cells′ : List ℕ) (r : Offered) → Searched (marksOf (take k ys)) cells cells′ r → Searched (marksOf ys) cells cells′ r
+  first-search e cells cells′ Separating s =
       record {
         z = s .z;
         Y = s .Y;
         is = s .is;
         legal = legal-more maxMembers maxWires (marksOf (take k ys)) (marksOf ys) first-le (h .sound .bits) (s .z) (s .Y) (s .legal);
       }
-  first-search e bytes bytes′ Nothing s = (s .0, all-or-none (e .which) (s .1))
+  first-search e cells cells′ Nothing s = (s .0, all-or-none (e .which) (s .1))
 
 -- ---- of what was gathered, the first m
 
-module _ (marks list : List ℕ) (count m : ℕ) (sound : SoundMarks weightBytes maxWires marks) (g : Gathered marks list count) (e : Enough count m) where
+module _ (marks list : List ℕ) (count m : ℕ) (sound : SoundMarks parities maxWires marks) (g : Gathered marks list count) (e : Enough count m) where
   counted : length (take count list) ≡ count
   counted = gathered-length marks list count sound g
 
@@ -118,8 +118,8 @@ module _ (marks list : List ℕ) (count m : ℕ) (sound : SoundMarks weightBytes
   enough-members = subst Members same (first-members m (take count list) (gathered-members marks list count sound g) (omega (arith, e .fits, counted)))
 
   -- what was found of them is found of the marks
-  pub enough-search : (bytes bytes′ : List ℕ) (r : Offered) → Searched (marksOf (take m list)) bytes bytes′ r → Searched marks bytes bytes′ r
-  enough-search bytes bytes′ r s =
-      gathered-search marks list count sound g bytes bytes′ r
-      (first-search m (take count list) (gathered-members marks list count sound g) (omega (arith, e .fits, counted)) (rw counted e) bytes bytes′ r
-      (subst (λ (l : List ℕ). Searched (marksOf l) bytes bytes′ r) (sym same) s))
+  pub enough-search : (cells cells′ : List ℕ) (r : Offered) → Searched (marksOf (take m list)) cells cells′ r → Searched marks cells cells′ r
+  enough-search cells cells′ r s =
+      gathered-search marks list count sound g cells cells′ r
+      (first-search m (take count list) (gathered-members marks list count sound g) (omega (arith, e .fits, counted)) (rw counted e) cells cells′ r
+      (subst (λ (l : List ℕ). Searched (marksOf l) cells cells′ r) (sym same) s))

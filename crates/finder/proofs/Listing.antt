@@ -7,7 +7,7 @@ use native.Mathlib.Numerals.{add-one}
 use native.Mathlib.Omega.{arith}
 use lib.ListN.{getD, length, set, take}
 use lib.Seq.{ext-getD, length-take-le, take-set-le, take-suc-set}
-use Rattle.circuit.specs.Limits.{maxWires, weightBytes}
+use Rattle.circuit.specs.Limits.{maxWires, parities}
 use Rattle.circuit.specs.Sound.{SoundMarks, weight}
 use Rattle.gf2.proofs.Table.{getD-tabulate, length-tabulate}
 use Rattle.kernel.specs.Members.{Members, marksOf}
@@ -34,29 +34,29 @@ module _ (marks : List ℕ) where
 
 -- ---- the marks of the listed members are the marks
 
-module _ (marks : List ℕ) (sound : SoundMarks weightBytes maxWires marks) where
-  pub marks-back : marksOf (listed weightBytes (weight marks)) ≡ marks
+module _ (marks : List ℕ) (sound : SoundMarks parities maxWires marks) where
+  pub marks-back : marksOf (listed parities (weight marks)) ≡ marks
   unfolding marksOf
   marks-back =
-      ext-getD 0 (marksOf (listed weightBytes (weight marks))) marks (long ∙ sym (sound .long))
-      (λ p l. getD-tabulate weightBytes (λ q. occ q (listed weightBytes (weight marks))) p (rw long at l) ∙ listed-occ (weight marks) (sound .bits) weightBytes p (rw long at l))
+      ext-getD 0 (marksOf (listed parities (weight marks))) marks (long ∙ sym (sound .long))
+      (λ p l. getD-tabulate parities (λ q. occ q (listed parities (weight marks))) p (rw long at l) ∙ listed-occ (weight marks) (sound .bits) parities p (rw long at l))
     where
-      long : length (marksOf (listed weightBytes (weight marks))) ≡ weightBytes
-      long = length-tabulate weightBytes (λ q. occ q (listed weightBytes (weight marks)))
+      long : length (marksOf (listed parities (weight marks))) ≡ parities
+      long = length-tabulate parities (λ q. occ q (listed parities (weight marks)))
 
-  pub listed-members : Members (listed weightBytes (weight marks))
+  pub listed-members : Members (listed parities (weight marks))
   listed-members =
       record {
-        ordered = listed-ascending weightBytes (weight marks);
+        ordered = listed-ascending parities (weight marks);
         below =
-            λ i l. member-lt weightBytes maxWires marks sound (getD (listed weightBytes (weight marks)) i 0)
-            (listed-in (weight marks) (sound .bits) weightBytes (getD (listed weightBytes (weight marks)) i 0) (i, l, refl));
-        sound = subst (SoundMarks weightBytes maxWires) (sym marks-back) sound;
+            λ i l. member-lt parities maxWires marks sound (getD (listed parities (weight marks)) i 0)
+            (listed-in (weight marks) (sound .bits) parities (getD (listed parities (weight marks)) i 0) (i, l, refl));
+        sound = subst (SoundMarks parities maxWires) (sym marks-back) sound;
       }
 
 -- ---- what was gathered
 
-module _ (marks list : List ℕ) (count : ℕ) (sound : SoundMarks weightBytes maxWires marks) (g : Gathered marks list count) where
+module _ (marks list : List ℕ) (count : ℕ) (sound : SoundMarks parities maxWires marks) (g : Gathered marks list count) where
   pub gathered-length : length (take count list) ≡ count
   gathered-length = length-take-le count list (omega (arith, g .fits, g .long))
 
@@ -64,5 +64,5 @@ module _ (marks list : List ℕ) (count : ℕ) (sound : SoundMarks weightBytes m
   gathered-members = subst Members (sym (g .are)) (listed-members marks sound)
 
   -- what was found of the list is found of the marks
-  pub gathered-search : (bytes bytes′ : List ℕ) (r : Offered) → Searched (marksOf (take count list)) bytes bytes′ r → Searched marks bytes bytes′ r
-  gathered-search bytes bytes′ r = subst (λ (m : List ℕ). Searched m bytes bytes′ r) (ap marksOf (g .are) ∙ marks-back marks sound)
+  pub gathered-search : (cells cells′ : List ℕ) (r : Offered) → Searched (marksOf (take count list)) cells cells′ r → Searched marks cells cells′ r
+  gathered-search cells cells′ r = subst (λ (m : List ℕ). Searched m cells cells′ r) (ap marksOf (g .are) ∙ marks-back marks sound)

@@ -29,9 +29,9 @@ abbrev pub Passed : List ℕ → ℕ → ℕ → Type 0
 Passed ys i j = Neither (marksOf ys) (getD ys i 0) (getD ys j 0)
 
 -- the kernel offered nothing
-pub pair-passed : (ys : List ℕ) (i j : ℕ) (bytes bytes′ : List ℕ) (r : Offered) → r ≡ Nothing → Offers ys (getD ys i 0) (getD ys j 0) bytes bytes′ r
-    → (bytes′ ≡ bytes) × Passed ys i j
-pair-passed ys i j bytes bytes′ r e o = rw e at o
+pub pair-passed : (ys : List ℕ) (i j : ℕ) (cells cells′ : List ℕ) (r : Offered) → r ≡ Nothing → Offers ys (getD ys i 0) (getD ys j 0) cells cells′ r
+    → (cells′ ≡ cells) × Passed ys i j
+pair-passed ys i j cells cells′ r e o = rw e at o
 
 pub all-passed : (ys : List ℕ) → Members ys → ((i : ℕ) → i < length ys → (j : ℕ) → j < length ys → i < j → Passed ys i j)
     → (z : ℕ) (Y : List ℕ) → Legal maxMembers maxWires (marksOf ys) z Y → ⊥

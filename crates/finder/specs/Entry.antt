@@ -1,12 +1,12 @@
--- The entry `find`: its reply and what it leaves in the bytes lent, for sound and faulty arguments alike.
+-- The entry `find`: its reply and what it leaves in the cells lent, for sound and faulty arguments alike.
 use mathlib.Core.List.{List}
 use mathlib.Core.Logic.{_≢_}
 use mathlib.Core.Path.{_≡_}
 use Prim.Native.Nat.{ℕ}
 use lib.ListN.{length}
 use Rattle.circuit.specs.Faults.{lentFault}
-use Rattle.circuit.specs.Limits.{maxMembers, moveBytes}
-use Rattle.moves.specs.Log.{LegalBytes}
+use Rattle.circuit.specs.Limits.{maxMembers, moveCells}
+use Rattle.moves.specs.Log.{LegalCells}
 use Rattle.moves.specs.Move.{Legal}
 use Rattle.weights.specs.Faults.{callFault, marksFault}
 use Rattle.finder.specs.declared.Finding.{Finding}
@@ -23,17 +23,17 @@ placeOf Found = 0
 placeOf Nothing = 0
 placeOf (Refused number place) = place
 
--- 1, 8, 6, by the marks and the length of the bytes lent for a move
+-- 1, 8, 6, by the marks and the length of the cells lent for a move
 abbrev pub findFault : ℕ → List ℕ → ℕ → ℕ
-findFault n marks forty = callFault n (lentFault forty moveBytes) (marksFault n marks)
+findFault n marks cells = callFault n (lentFault cells moveCells) (marksFault n marks)
 
--- the answer for sound arguments: the bytes of a legal move; or none, and then no z and Y at all make a legal move, and the bytes are as they were
+-- the answer for sound arguments: the cells of a legal move; or none, and then no z and Y at all make a legal move, and the cells are as they were
 abbrev pub Answers : ℕ → List ℕ → List ℕ → List ℕ → Finding → Type 0
-Answers n marks forty forty′ Found = LegalBytes maxMembers n marks forty′
-Answers n marks forty forty′ Nothing = (forty′ ≡ forty) × ((z : ℕ) (Y : List ℕ) → Legal maxMembers n marks z Y → ⊥)
-Answers n marks forty forty′ (Refused number place) = ⊥
+Answers n marks cells cells′ Found = LegalCells maxMembers n marks cells′
+Answers n marks cells cells′ Nothing = (cells′ ≡ cells) × ((z : ℕ) (Y : List ℕ) → Legal maxMembers n marks z Y → ⊥)
+Answers n marks cells cells′ (Refused number place) = ⊥
 
--- `find`, called with these marks and bytes, replies r and leaves forty′
-pub record FindMove (n : ℕ) (marks forty forty′ : List ℕ) (r : Finding) : Type 0 where
-  pub refuses : findFault n marks (length forty) ≢ 0 → (r ≡ Refused (findFault n marks (length forty)) 0) × (forty′ ≡ forty)
-  pub answers : findFault n marks (length forty) ≡ 0 → Answers n marks forty forty′ r
+-- `find`, called with these marks and cells, replies r and leaves cells′
+pub record FindMove (n : ℕ) (marks cells cells′ : List ℕ) (r : Finding) : Type 0 where
+  pub refuses : findFault n marks (length cells) ≢ 0 → (r ≡ Refused (findFault n marks (length cells)) 0) × (cells′ ≡ cells)
+  pub answers : findFault n marks (length cells) ≡ 0 → Answers n marks cells cells′ r

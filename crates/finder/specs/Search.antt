@@ -4,19 +4,19 @@ use mathlib.Core.Logic.{_⊎_}
 use mathlib.Core.Path.{_≡_}
 use Prim.Native.Nat.{_+_, _<_, _≤_, ℕ}
 use lib.ListN.{length, take}
-use Rattle.circuit.specs.Limits.{maxMembers, maxWires, productBits, weightBytes}
+use Rattle.circuit.specs.Limits.{maxMembers, maxWires, parities, productBits}
 use Rattle.circuit.specs.Sound.{weight}
 use Rattle.kernel.specs.declared.Offered.{Offered}
 use Rattle.kernel.specs.declared.Offered.the-variants.{Nothing, Separating}
-use Rattle.moves.specs.Log.{LegalBytes}
+use Rattle.moves.specs.Log.{LegalCells}
 use Rattle.moves.specs.Move.{Legal}
 use Rattle.moves.specs.Sets.{listed}
 
 -- the first `count` of the list are the members, in ascending order
 pub record Gathered (marks list : List ℕ) (count : ℕ) : Type 0 where
-  pub fits : count ≤ weightBytes
-  pub long : length list ≡ weightBytes
-  pub are : take count list ≡ listed weightBytes (weight marks)
+  pub fits : count ≤ parities
+  pub long : length list ≡ parities
+  pub are : take count list ≡ listed parities (weight marks)
 
 -- of so many members the first m are enough to search: they are all, or more than can be without a legal move
 pub record Enough (count m : ℕ) : Type 0 where
@@ -25,5 +25,5 @@ pub record Enough (count m : ℕ) : Type 0 where
 
 -- a legal move is written, or there is none
 abbrev pub Searched : List ℕ → List ℕ → List ℕ → Offered → Type 0
-Searched marks bytes bytes′ Separating = LegalBytes maxMembers maxWires marks bytes′
-Searched marks bytes bytes′ Nothing = (bytes′ ≡ bytes) × ((z : ℕ) (Y : List ℕ) → Legal maxMembers maxWires marks z Y → ⊥)
+Searched marks cells cells′ Separating = LegalCells maxMembers maxWires marks cells′
+Searched marks cells cells′ Nothing = (cells′ ≡ cells) × ((z : ℕ) (Y : List ℕ) → Legal maxMembers maxWires marks z Y → ⊥)

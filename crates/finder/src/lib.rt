@@ -2,7 +2,7 @@
 // Public entry: `find`. Its promise is the record FindMove of specs/Entry, which speaks of every z and Y; proofs/Laws says what it means.
 ghost use mathlib.Core.Path.{_≡_};
 ghost use lib.ListN.{length};
-ghost use Rattle.circuit.specs.Limits.{maxWires, moveBytes, weightBytes};
+ghost use Rattle.circuit.specs.Limits.{maxWires, moveCells, parities};
 ghost use Rattle.circuit.specs.Sound.{SoundMarks};
 ghost use Rattle.finder.specs.Entry.{FindMove};
 ghost use Rattle.finder.specs.Search.{Searched};
@@ -11,9 +11,9 @@ pub mod members;
 pub mod scan;
 
 use circuit::faults::lent_fault;
-use circuit::limits::MOVE_BYTES;
+use circuit::limits::MOVE_CELLS;
+use circuit::limits::PARITIES;
 use circuit::limits::Parity;
-use circuit::limits::WEIGHT_BYTES;
 use columns::table::products;
 use kernel::Offered;
 use members::enough;
@@ -23,7 +23,7 @@ use weights::faults::call_fault;
 use weights::faults::marks_fault;
 
 pub enum Finding {
-    // The bytes lent hold a legal move.
+    // The cells lent hold a legal move.
     Found,
     // No move is legal for these marks.
     Nothing,
@@ -31,11 +31,11 @@ pub enum Finding {
     Refused { number: u8, place: usize },
 }
 
-// Finds a legal move for the marks of an odd set and writes its forty bytes. Where it finds none, and on refusal, the bytes stay as they were.
-pub fn find(n: usize, marks: &[u8], forty: &mut [u8]) -> Finding
-    ensures { λ r. ⌜ FindMove n (now (marks .entry)) (now (forty .entry)) (now (forty .exit)) r ⌝ }
+// Finds a legal move for the marks of an odd set and writes its cells. Where it finds none, and on refusal, the cells stay as they were.
+pub fn find(n: usize, marks: &[u8], cells: &mut [u8]) -> Finding
+    ensures { λ r. ⌜ FindMove n (now (marks .entry)) (now (cells .entry)) (now (cells .exit)) r ⌝ }
 {
-    let lent = lent_fault(forty.len(), MOVE_BYTES);
+    let lent = lent_fault(cells.len(), MOVE_CELLS);
     let fault = call_fault(n, lent, marks_fault(n, marks));
     if fault != 0 {
         return Finding::Refused {
@@ -43,7 +43,7 @@ pub fn find(n: usize, marks: &[u8], forty: &mut [u8]) -> Finding
             place: 0,
         };
     }
-    match search(marks, forty) {
+    match search(marks, cells) {
         Offered::Separating => Finding::Found,
         Offered::Nothing => Finding::Nothing,
     }
@@ -52,14 +52,14 @@ pub fn find(n: usize, marks: &[u8], forty: &mut [u8]) -> Finding
 // A legal move on all wires, for marks without a fault: the product table is made and the members are gathered once, so that the scan
 // reads the one and goes through the others alone, as many of them as are enough. Internal: the caller has found the marks sound. It is
 // public for the trim, which has proved its marks sound and need not have them judged again before each move.
-pub fn search(marks: &[u8], forty: &mut [u8]) -> Offered
-    requires { ⌜ SoundMarks weightBytes maxWires (now marks) ⌝ }
-    requires { ⌜ length (now forty) ≡ moveBytes ⌝ }
-    ensures { λ r. ⌜ Searched (now (marks .entry)) (now (forty .entry)) (now (forty .exit)) r ⌝ }
+pub fn search(marks: &[u8], cells: &mut [u8]) -> Offered
+    requires { ⌜ SoundMarks parities maxWires (now marks) ⌝ }
+    requires { ⌜ length (now cells) ≡ moveCells ⌝ }
+    ensures { λ r. ⌜ Searched (now (marks .entry)) (now (cells .entry)) (now (cells .exit)) r ⌝ }
 {
     let table = products();
-    let mut list = [0 as Parity; WEIGHT_BYTES];
+    let mut list = [0 as Parity; PARITIES];
     let count = gather(marks, &mut list);
     let m = enough(count);
-    scan_pairs(&table, &list[..m], forty)
+    scan_pairs(&table, &list[..m], cells)
 }

@@ -1,18 +1,18 @@
 // The members of an odd set as a list.
 ghost use mathlib.Core.Path.{_≡_};
 ghost use lib.ListN.{length};
-ghost use Rattle.circuit.specs.Limits.{maxWires, weightBytes};
+ghost use Rattle.circuit.specs.Limits.{maxWires, parities};
 ghost use Rattle.circuit.specs.Sound.{SoundMarks};
 ghost use Rattle.finder.specs.Search.{Enough, Gathered};
 use circuit::limits::MAX_MEMBERS;
+use circuit::limits::PARITIES;
 use circuit::limits::Parity;
-use circuit::limits::WEIGHT_BYTES;
 
 // Lists the members in ascending order, and gives their number. Each parity is put at the end of the list, and stays there where its mark
 // is 1: marks are hard to foresee, so a branch on each would cost more. Internal: the caller has found the marks sound.
-pub fn gather(marks: &[u8], list: &mut [Parity; WEIGHT_BYTES]) -> usize
-    requires { ⌜ SoundMarks weightBytes maxWires (now marks) ⌝ }
-    requires { ⌜ length (now list) ≡ weightBytes ⌝ }
+pub fn gather(marks: &[u8], list: &mut [Parity; PARITIES]) -> usize
+    requires { ⌜ SoundMarks parities maxWires (now marks) ⌝ }
+    requires { ⌜ length (now list) ≡ parities ⌝ }
     ensures { λ r. ⌜ Gathered (now (marks .entry)) (now (list .exit)) r ⌝ }
 {
     let mut count: usize = 0;

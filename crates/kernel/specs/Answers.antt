@@ -4,10 +4,10 @@ use mathlib.Core.Logic.{_⊎_}
 use mathlib.Core.Path.{_≡_}
 use Prim.Native.Nat.{ℕ}
 use lib.ListN.{replicate}
-use Rattle.circuit.specs.Limits.{maxMembers, maxWires, productBits, weightBytes}
+use Rattle.circuit.specs.Limits.{maxMembers, maxWires, parities, productBits}
 use Rattle.gf2.specs.Echelon.{Basis, Reached, Stopped}
 use Rattle.moves.specs.Kappa.{kappa}
-use Rattle.moves.specs.Log.{LegalBytes, asBytes}
+use Rattle.moves.specs.Log.{LegalCells, asCells}
 use Rattle.moves.specs.Pair.{Offer, spelled}
 use Rattle.kernel.specs.Members.{Rest, marksOf}
 use Rattle.kernel.specs.declared.Offered.{Offered}
@@ -23,11 +23,11 @@ pub record Empty (vec mask member : List ℕ) : Type 0 where
 abbrev pub Built : ℕ → List ℕ → ℕ → ℕ → ℕ → ℕ → List ℕ → List ℕ → List ℕ → Type 0
 Built k ys a b z t vec mask member = Basis productBits (Rest k ys a b) (kappa maxWires z t) vec mask member
 
--- the column of a came down to 0, and the bytes are those of z and the set that its mask spells with a
-pub record Spells (z t a : ℕ) (vec mask member bytes : List ℕ) : Type 0 where
+-- the column of a came down to 0, and the cells are those of z and the set that its mask spells with a
+pub record Spells (z t a : ℕ) (vec mask member cells : List ℕ) : Type 0 where
   pub m : ℕ
   pub reached : Reached vec mask (kappa maxWires z t a) 0 m
-  pub is : bytes ≡ asBytes maxMembers z (spelled weightBytes member m productBits a)
+  pub is : cells ≡ asCells maxMembers z (spelled parities member m productBits a)
 
 -- the column of a was stopped
 pub record Bars (z t a : ℕ) (vec mask : List ℕ) : Type 0 where
@@ -38,13 +38,13 @@ pub record Bars (z t a : ℕ) (vec mask : List ℕ) : Type 0 where
 
 -- `ask`: for one of the two
 abbrev pub Asked : ℕ → ℕ → ℕ → List ℕ → List ℕ → List ℕ → List ℕ → List ℕ → Offered → Type 0
-Asked z t a vec mask member bytes bytes′ Separating = Spells z t a vec mask member bytes′
-Asked z t a vec mask member bytes bytes′ Nothing = (bytes′ ≡ bytes) × Bars z t a vec mask
+Asked z t a vec mask member cells cells′ Separating = Spells z t a vec mask member cells′
+Asked z t a vec mask member cells cells′ Nothing = (cells′ ≡ cells) × Bars z t a vec mask
 
 -- `both`: for one of them after the other
 abbrev pub AskedBoth : ℕ → ℕ → ℕ → ℕ → List ℕ → List ℕ → List ℕ → List ℕ → List ℕ → Offered → Type 0
-AskedBoth z t a b vec mask member bytes bytes′ Separating = Spells z t a vec mask member bytes′ ⊎ Spells z t b vec mask member bytes′
-AskedBoth z t a b vec mask member bytes bytes′ Nothing = (bytes′ ≡ bytes) × Bars z t a vec mask × Bars z t b vec mask
+AskedBoth z t a b vec mask member cells cells′ Separating = Spells z t a vec mask member cells′ ⊎ Spells z t b vec mask member cells′
+AskedBoth z t a b vec mask member cells cells′ Nothing = (cells′ ≡ cells) × Bars z t a vec mask × Bars z t b vec mask
 
 -- no legal move has one of the two in Y and the other not
 pub record Neither (marks : List ℕ) (a b : ℕ) : Type 0 where
@@ -53,5 +53,5 @@ pub record Neither (marks : List ℕ) (a b : ℕ) : Type 0 where
 
 -- `offer`: a legal move is written, or neither way round gives one
 abbrev pub Offers : List ℕ → ℕ → ℕ → List ℕ → List ℕ → Offered → Type 0
-Offers ys a b bytes bytes′ Separating = LegalBytes maxMembers maxWires (marksOf ys) bytes′
-Offers ys a b bytes bytes′ Nothing = (bytes′ ≡ bytes) × Neither (marksOf ys) a b
+Offers ys a b cells cells′ Separating = LegalCells maxMembers maxWires (marksOf ys) cells′
+Offers ys a b cells cells′ Nothing = (cells′ ≡ cells) × Neither (marksOf ys) a b

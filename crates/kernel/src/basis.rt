@@ -4,15 +4,15 @@ ghost use lib.ListN.{length};
 ghost use Rattle.circuit.specs.Limits.{maxWires};
 ghost use Rattle.columns.specs.Table.{ProductTable};
 ghost use Rattle.kernel.specs.Answers.{Built, Empty};
+use circuit::limits::PARITIES;
 use circuit::limits::PRODUCT_BITS;
 use circuit::limits::Parity;
-use circuit::limits::WEIGHT_BYTES;
 use columns::column;
 use echelon::insert;
 
 // The columns of the members but a and b, for z and its wire t.
 pub fn build(
-    products: &[u64; WEIGHT_BYTES],
+    products: &[u64; PARITIES],
     ys: &[Parity],
     a: Parity,
     b: Parity,

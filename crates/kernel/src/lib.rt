@@ -1,23 +1,21 @@
 // The finder's kernel: whether two members a and b of an odd set offer a separating set, one of the two in it and the other not, that makes a legal
 // move with z = a ^ b (document 01, "Legal moves"). It eliminates columns over the product table. Internal: no entry for users.
-ghost use mathlib.Core.Logic.{_≢_};
 ghost use mathlib.Core.Path.{_≡_};
 ghost use Prim.Native.Nat.{_<_};
 ghost use lib.ListN.{length};
-ghost use Rattle.circuit.specs.Limits.{maxWires, moveBytes};
+ghost use Rattle.circuit.specs.Limits.{maxWires, moveCells};
 ghost use Rattle.columns.specs.Table.{ProductTable};
 ghost use Rattle.echelon.specs.Slots.{Slots};
-ghost use Rattle.moves.specs.Sets.{In};
 ghost use Rattle.kernel.specs.Answers.{Asked, AskedBoth, Offers};
-ghost use Rattle.kernel.specs.Members.{Members};
+ghost use Rattle.kernel.specs.Members.{Pair};
 
 pub mod basis;
 pub mod spelling;
 
 use basis::build;
+use circuit::limits::PARITIES;
 use circuit::limits::PRODUCT_BITS;
 use circuit::limits::Parity;
-use circuit::limits::WEIGHT_BYTES;
 use circuit::parity::lowest;
 use columns::column;
 use echelon::Reduced;
@@ -25,7 +23,7 @@ use echelon::reduce;
 use spelling::write_move;
 
 pub enum Offered {
-    // The bytes of a legal move are written.
+    // The cells of a legal move are written.
     Separating,
     // There is none, either way round, and nothing is written.
     Nothing,
@@ -33,17 +31,16 @@ pub enum Offered {
 
 // What members a and b offer. One basis serves for both ways round.
 pub fn offer(
-    products: &[u64; WEIGHT_BYTES],
+    products: &[u64; PARITIES],
     ys: &[Parity],
     a: Parity,
     b: Parity,
-    bytes: &mut [u8],
+    cells: &mut [u8],
 ) -> Offered
     requires { ⌜ ProductTable (now products) ⌝ }
-    requires { ⌜ Members (now ys) ⌝ }
-    requires { ⌜ (In a (now ys)) × (In b (now ys)) × (a ≢ b) ⌝ }
-    requires { ⌜ length (now bytes) ≡ moveBytes ⌝ }
-    ensures { λ r. ⌜ Offers (now (ys .entry)) a b (now (bytes .entry)) (now (bytes .exit)) r ⌝ }
+    requires { ⌜ Pair (now ys) a b ⌝ }
+    requires { ⌜ length (now cells) ≡ moveCells ⌝ }
+    ensures { λ r. ⌜ Offers (now (ys .entry)) a b (now (cells .entry)) (now (cells .exit)) r ⌝ }
 {
     let z = a ^ b;
     let t = lowest(z);
@@ -51,12 +48,12 @@ pub fn offer(
     let mut mask = [0u64; PRODUCT_BITS];
     let mut member = [0 as Parity; PRODUCT_BITS];
     build(products, ys, a, b, z, t, &mut vec, &mut mask, &mut member);
-    both(products, z, t, a, b, &vec, &mask, &member, bytes)
+    both(products, z, t, a, b, &vec, &mask, &member, cells)
 }
 
 // a in the set and b out of it; then b in and a out.
 fn both(
-    products: &[u64; WEIGHT_BYTES],
+    products: &[u64; PARITIES],
     z: Parity,
     t: usize,
     a: Parity,
@@ -64,40 +61,40 @@ fn both(
     vec: &[u64; PRODUCT_BITS],
     mask: &[u64; PRODUCT_BITS],
     member: &[Parity; PRODUCT_BITS],
-    bytes: &mut [u8],
+    cells: &mut [u8],
 ) -> Offered
     requires { ⌜ ProductTable (now products) ⌝ }
     requires { ⌜ t < maxWires ⌝ }
     requires { ⌜ Slots (now vec) (now mask) (now member) ⌝ }
-    requires { ⌜ length (now bytes) ≡ moveBytes ⌝ }
-    ensures { λ r. ⌜ AskedBoth z t a b (now (vec .entry)) (now (mask .entry)) (now (member .entry)) (now (bytes .entry)) (now (bytes .exit)) r ⌝ }
+    requires { ⌜ length (now cells) ≡ moveCells ⌝ }
+    ensures { λ r. ⌜ AskedBoth z t a b (now (vec .entry)) (now (mask .entry)) (now (member .entry)) (now (cells .entry)) (now (cells .exit)) r ⌝ }
 {
-    match ask(products, z, t, a, vec, mask, member, bytes) {
+    match ask(products, z, t, a, vec, mask, member, cells) {
         Offered::Separating => Offered::Separating,
-        Offered::Nothing => ask(products, z, t, b, vec, mask, member, bytes),
+        Offered::Nothing => ask(products, z, t, b, vec, mask, member, cells),
     }
 }
 
 // Whether the column of a is the xor of columns in the slots; if so, their members make the set with a.
 fn ask(
-    products: &[u64; WEIGHT_BYTES],
+    products: &[u64; PARITIES],
     z: Parity,
     t: usize,
     a: Parity,
     vec: &[u64; PRODUCT_BITS],
     mask: &[u64; PRODUCT_BITS],
     member: &[Parity; PRODUCT_BITS],
-    bytes: &mut [u8],
+    cells: &mut [u8],
 ) -> Offered
     requires { ⌜ ProductTable (now products) ⌝ }
     requires { ⌜ t < maxWires ⌝ }
     requires { ⌜ Slots (now vec) (now mask) (now member) ⌝ }
-    requires { ⌜ length (now bytes) ≡ moveBytes ⌝ }
-    ensures { λ r. ⌜ Asked z t a (now (vec .entry)) (now (mask .entry)) (now (member .entry)) (now (bytes .entry)) (now (bytes .exit)) r ⌝ }
+    requires { ⌜ length (now cells) ≡ moveCells ⌝ }
+    ensures { λ r. ⌜ Asked z t a (now (vec .entry)) (now (mask .entry)) (now (member .entry)) (now (cells .entry)) (now (cells .exit)) r ⌝ }
 {
     match reduce(vec, mask, column(products, z, t, a)) {
         Reduced::Dependent { mask: m } => {
-            write_move(z, a, m, member, bytes);
+            write_move(z, a, m, member, cells);
             Offered::Separating
         }
         Reduced::Independent {

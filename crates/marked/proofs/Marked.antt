@@ -10,13 +10,13 @@ use Rattle.gf2.specs.Selection.{combine}
 use Rattle.gf2.specs.Sum.{delta, sum}
 use Rattle.gf2.specs.Table.{tabulate, weightedSum}
 use Rattle.moves.specs.CarryOut.{carryOut, flipIf, flipPairs}
-use Rattle.moves.specs.Decide.{any, every, isLegal, sameBytes}
+use Rattle.moves.specs.Decide.{any, every, isLegal, sameCells}
 use Rattle.phase.specs.Coefficients.{c, l, q}
 use Rattle.marked.proofs.Testing.{all-claimed, allC, allHold, allL, allQ, holds, isRefusal}
 use Rattle.marked.specs.Cases.{AllClaimed, cases, onesTo, rowsWith, weightsWith}
 
 computed : T (allHold cases)
-unfolding cases allHold holds sameBytes isRefusal weightsWith rowsWith readFrom readKind kindOf firstRows noWeights tabulate tGates isT delta oddSet members sum firstFault gateFault onesTo allL allQ allC l q c weightedSum bit every any combine isLegal flipPairs flipIf carryOut xorAll sumOver
+unfolding cases allHold holds sameCells isRefusal weightsWith rowsWith readFrom readKind kindOf firstRows noWeights tabulate tGates isT delta oddSet members sum firstFault gateFault onesTo allL allQ allC l q c weightedSum bit every any combine isLegal flipPairs flipIf carryOut xorAll sumOver
 computed = tt
 
 pub marked : AllClaimed cases

@@ -13,7 +13,7 @@ use Rattle.circuit.specs.Read.{read}
 use Rattle.gf2.specs.Selection.{combine}
 use Rattle.moves.proofs.Deciding.{T-both, every-at, legal-decided, same-decided}
 use Rattle.moves.specs.CarryOut.{carryOut}
-use Rattle.moves.specs.Decide.{every, isLegal, sameBytes}
+use Rattle.moves.specs.Decide.{every, isLegal, sameCells}
 use Rattle.phase.specs.Coefficients.{c, l, q}
 use Rattle.marked.specs.Cases.{AllClaimed, Case, Claim, coefficients, dependent, leaves, reads, refuses, rowsWith, weightsWith}
 use Rattle.circuit.specs.declared.Reply.{Reply}
@@ -58,11 +58,11 @@ c-all n w d t i j k h g f =
 
 unfoldable pub holds : Case → Bool
 holds (reads n gs es rows t odd) =
-    sameBytes (read maxWires n gs .weights) (weightsWith es) &&
-    (sameBytes (read maxWires n gs .rows) (rowsWith rows) && (eqb (tGates gs) t && eqb (members (oddSet (read maxWires n gs .weights))) odd))
+    sameCells (read maxWires n gs .weights) (weightsWith es) &&
+    (sameCells (read maxWires n gs .rows) (rowsWith rows) && (eqb (tGates gs) t && eqb (members (oddSet (read maxWires n gs .weights))) odd))
 holds (refuses n gs number place) = isRefusal (firstFault n 0 gs) number place
 holds (coefficients n es a b d) = allL n (weightsWith es) a && (allQ n (weightsWith es) b && allC n (weightsWith es) d)
-holds (leaves n es z Y left) = isLegal maxMembers n (weightsWith es) z Y && sameBytes (carryOut (weightsWith es) z Y) (weightsWith left)
+holds (leaves n es z Y left) = isLegal maxMembers n (weightsWith es) z Y && sameCells (carryOut (weightsWith es) z Y) (weightsWith left)
 holds (dependent n rows s) = ltb 0 s && (ltb s (2 ^ n) && eqb (combine s (rowsWith rows)) 0)
 
 pub claimed : (k : Case) → T (holds k) → Claim k
@@ -70,8 +70,8 @@ unfolding holds
 claimed (reads n gs es rows t odd) h =
     let w : List ℕ = read maxWires n gs .weights in
     let s : List ℕ = read maxWires n gs .rows in
-    let a = T-both (sameBytes w (weightsWith es)) (sameBytes s (rowsWith rows) && (eqb (tGates gs) t && eqb (members (oddSet w)) odd)) .0 h in
-    let b = T-both (sameBytes s (rowsWith rows)) (eqb (tGates gs) t && eqb (members (oddSet w)) odd) .0 (a .1) in
+    let a = T-both (sameCells w (weightsWith es)) (sameCells s (rowsWith rows) && (eqb (tGates gs) t && eqb (members (oddSet w)) odd)) .0 h in
+    let b = T-both (sameCells s (rowsWith rows)) (eqb (tGates gs) t && eqb (members (oddSet w)) odd) .0 (a .1) in
     let d = T-both (eqb (tGates gs) t) (eqb (members (oddSet w)) odd) .0 (b .1) in
     (same-decided w (weightsWith es) .0 (a .0), same-decided s (rowsWith rows) .0 (b .0), eqb→eq (tGates gs) t (d .0), eqb→eq (members (oddSet w)) odd (d .1))
 claimed (refuses n gs number place) h = refusal (firstFault n 0 gs) number place h
@@ -81,7 +81,7 @@ claimed (coefficients n es a b d) h =
     let t = T-both (allQ n w b) (allC n w d) .0 (s .1) in
     record { l-is = l-all n w a (s .0); q-is = q-all n w b (t .0); c-is = c-all n w d (t .1) }
 claimed (leaves n es z Y left) h =
-    let s = T-both (isLegal maxMembers n (weightsWith es) z Y) (sameBytes (carryOut (weightsWith es) z Y) (weightsWith left)) .0 h in
+    let s = T-both (isLegal maxMembers n (weightsWith es) z Y) (sameCells (carryOut (weightsWith es) z Y) (weightsWith left)) .0 h in
     (legal-decided maxMembers n (weightsWith es) z Y .0 (s .0), same-decided (carryOut (weightsWith es) z Y) (weightsWith left) .0 (s .1))
 claimed (dependent n rows s) h =
     let a = T-both (ltb 0 s) (ltb s (2 ^ n) && eqb (combine s (rowsWith rows)) 0) .0 h in

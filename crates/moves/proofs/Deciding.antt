@@ -13,9 +13,9 @@ use lib.ListN.{getD, length}
 use Rattle.circuit.specs.Sound.{weight}
 use Rattle.gf2.proofs.Xor.{xor-cancel}
 use Rattle.gf2.specs.Over.{sumOver, xorAll}
-use Rattle.moves.proofs.Logs.{bytes-say}
-use Rattle.moves.specs.Decide.{any, areMembers, every, isAscending, isBalanced, isIn, isLegal, isMember, isMove, isSeparating, sameBytes}
-use Rattle.moves.specs.Log.{LegalBytes, asBytes, setOf, zOf}
+use Rattle.moves.proofs.Logs.{cells-say}
+use Rattle.moves.specs.Decide.{any, areMembers, every, isAscending, isBalanced, isIn, isLegal, isMember, isMove, isSeparating, sameCells}
+use Rattle.moves.specs.Log.{LegalCells, asCells, setOf, zOf}
 use Rattle.moves.specs.Move.{Balanced, Legal, Member, Separates, triple}
 use Rattle.moves.specs.Sets.{Ascending, In}
 
@@ -196,40 +196,40 @@ legal-decided most n marks z Y = (
     E : Bool
     E = isBalanced n z Y
 
--- ---- the bytes of a move
+-- ---- the cells of a move
 
-pub same-decided : (xs ys : List ℕ) → T (sameBytes xs ys) ↔ (xs ≡ ys)
-unfolding sameBytes
+pub same-decided : (xs ys : List ℕ) → T (sameCells xs ys) ↔ (xs ≡ ys)
+unfolding sameCells
 same-decided [] [] = (λ t. refl, λ e. tt)
 same-decided [] (y ∷ ys) = (λ t. absurd t, λ e. let q : _≡_ {A = ℕ} 0 1 = cc in absurd (omega arith))
 same-decided (x ∷ xs) [] = (λ t. absurd t, λ e. let q : _≡_ {A = ℕ} 0 1 = cc in absurd (omega arith))
 same-decided (x ∷ xs) (y ∷ ys) = (
-  λ t. let q = T-both (eqb x y) (sameBytes xs ys) .0 t in ap₂ (λ (a : ℕ) (r : List ℕ). a ∷ r) (eqb→eq x y (q .0)) (same-decided xs ys .0 (q .1)),
-  λ e. T-both (eqb x y) (sameBytes xs ys) .1 (eqb-same x y (cc), same-decided xs ys .1 (cc)),
+  λ t. let q = T-both (eqb x y) (sameCells xs ys) .0 t in ap₂ (λ (a : ℕ) (r : List ℕ). a ∷ r) (eqb→eq x y (q .0)) (same-decided xs ys .0 (q .1)),
+  λ e. T-both (eqb x y) (sameCells xs ys) .1 (eqb-same x y (cc), same-decided xs ys .1 (cc)),
 )
 
-pub move-decided : (most n : ℕ) (marks bytes : List ℕ) → T (isMove most n marks bytes) ↔ LegalBytes most n marks bytes
+pub move-decided : (most n : ℕ) (marks cells : List ℕ) → T (isMove most n marks cells) ↔ LegalCells most n marks cells
 unfolding isMove
-move-decided most n marks bytes = (
+move-decided most n marks cells = (
   λ t. let q = T-both S R .0 t in
       record {
-        z = zOf bytes;
-        Y = setOf bytes;
-        is = same-decided bytes (asBytes most (zOf bytes) (setOf bytes)) .0 (q .0);
-        legal = legal-decided most n marks (zOf bytes) (setOf bytes) .0 (q .1);
+        z = zOf cells;
+        Y = setOf cells;
+        is = same-decided cells (asCells most (zOf cells) (setOf cells)) .0 (q .0);
+        legal = legal-decided most n marks (zOf cells) (setOf cells) .0 (q .1);
       },
-  λ f. let s = bytes-say most (f .z) (f .Y) bytes (f .is) in
+  λ f. let s = cells-say most (f .z) (f .Y) cells (f .is) in
       T-both S R .1 (
-        same-decided bytes (asBytes most (zOf bytes) (setOf bytes)) .1 (f .is ∙ sym (ap₂ (asBytes most) (s .0) (s .1))),
-        legal-decided most n marks (zOf bytes) (setOf bytes) .1 (rw (s .0, s .1) (f .legal)),
+        same-decided cells (asCells most (zOf cells) (setOf cells)) .1 (f .is ∙ sym (ap₂ (asCells most) (s .0) (s .1))),
+        legal-decided most n marks (zOf cells) (setOf cells) .1 (rw (s .0, s .1) (f .legal)),
       ),
 )
   where
     S : Bool
-    S = sameBytes bytes (asBytes most (zOf bytes) (setOf bytes))
+    S = sameCells cells (asCells most (zOf cells) (setOf cells))
 
     R : Bool
-    R = isLegal most n marks (zOf bytes) (setOf bytes)
+    R = isLegal most n marks (zOf cells) (setOf cells)
 
 T-is : (b : Bool) → T b → b ≡ true
 T-is true t = refl
@@ -243,11 +243,11 @@ not-T-is true h = absurd (h tt)
 not-T-is false h = refl
 
 -- for code that answers yes, and for code that answers no
-pub move-yes : (most n : ℕ) (marks bytes : List ℕ) → LegalBytes most n marks bytes → isMove most n marks bytes ≡ true
-move-yes most n marks bytes f = T-is (isMove most n marks bytes) (move-decided most n marks bytes .1 f)
+pub move-yes : (most n : ℕ) (marks cells : List ℕ) → LegalCells most n marks cells → isMove most n marks cells ≡ true
+move-yes most n marks cells f = T-is (isMove most n marks cells) (move-decided most n marks cells .1 f)
 
-pub move-no : (most n : ℕ) (marks bytes : List ℕ) → (LegalBytes most n marks bytes → ⊥) → isMove most n marks bytes ≡ false
-move-no most n marks bytes h = not-T-is (isMove most n marks bytes) (λ t. h (move-decided most n marks bytes .0 t))
+pub move-no : (most n : ℕ) (marks cells : List ℕ) → (LegalCells most n marks cells → ⊥) → isMove most n marks cells ≡ false
+move-no most n marks cells h = not-T-is (isMove most n marks cells) (λ t. h (move-decided most n marks cells .0 t))
 
-pub move-is : (most n : ℕ) (marks bytes : List ℕ) → isMove most n marks bytes ≡ true → LegalBytes most n marks bytes
-move-is most n marks bytes e = move-decided most n marks bytes .0 (is-T (isMove most n marks bytes) e)
+pub move-is : (most n : ℕ) (marks cells : List ℕ) → isMove most n marks cells ≡ true → LegalCells most n marks cells
+move-is most n marks cells e = move-decided most n marks cells .0 (is-T (isMove most n marks cells) e)

@@ -10,7 +10,7 @@ use lib.Count.{trailingZeros}
 use lib.Dec.{T}
 use lib.ListN.{length}
 use lib.Pow.{pow-mono}
-use Rattle.circuit.specs.Limits.{logBytes, maxMembers, maxWires, moveBytes, productBits, weightBytes}
+use Rattle.circuit.specs.Limits.{logCells, maxMembers, maxWires, moveCells, parities, productBits}
 use Rattle.circuit.specs.OddSet.{members, oddSet}
 use Rattle.circuit.specs.Sound.{SoundMarks}
 use Rattle.gf2.proofs.Leading.{lowest}
@@ -20,7 +20,7 @@ use Rattle.phase.specs.Signature.{SameSignature}
 use Rattle.moves.proofs.Bound.{bound}
 use Rattle.moves.proofs.Deciding.{move-decided}
 use Rattle.moves.proofs.Keep.{keeps, odd-set-signature, sound-kept}
-use Rattle.moves.proofs.Logs.{bytes-unique}
+use Rattle.moves.proofs.Logs.{cells-unique}
 use Rattle.moves.proofs.OneXor.{balanced-iff}
 use Rattle.moves.proofs.Pairs.{none-reached, offer-iff}
 use Rattle.moves.proofs.Products.{product-bit, product-by-bits, product-lt, tri-mono, tri-square}
@@ -30,7 +30,7 @@ use Rattle.moves.proofs.Wires.{legal-wires}
 use Rattle.moves.specs.CarryOut.{carryOut}
 use Rattle.moves.specs.Decide.{isMove}
 use Rattle.moves.specs.Kappa.{kappa}
-use Rattle.moves.specs.Log.{LegalBytes, asBytes}
+use Rattle.moves.specs.Log.{LegalCells, asCells}
 use Rattle.moves.specs.Move.{Balanced, Legal, Member}
 use Rattle.moves.specs.Pair.{Offer, Reach}
 use Rattle.moves.specs.Product.{product, tri}
@@ -90,15 +90,15 @@ bound-number n = ap (λ (x : ℕ). x + 1) (tri-square n)
 pub one-xor : (n z t : ℕ) → t < n → bit z t ≡ 1 → (Y : List ℕ) → Below (2 ^ n) Y → Balanced n z Y ↔ (xorAll (map (kappa n z t) Y) ≡ 0)
 one-xor = balanced-iff
 
--- ---- moves as bytes, and logs of them
+-- ---- moves as cells, and logs of them
 
--- legality of bytes is decided by computing
-pub legality-decided : (most n : ℕ) (marks bytes : List ℕ) → T (isMove most n marks bytes) ↔ LegalBytes most n marks bytes
+-- legality of cells is decided by computing
+pub legality-decided : (most n : ℕ) (marks cells : List ℕ) → T (isMove most n marks cells) ↔ LegalCells most n marks cells
 legality-decided = move-decided
 
--- bytes say one move
-pub one-move : (most z z′ : ℕ) (Y Y′ : List ℕ) → asBytes most z Y ≡ asBytes most z′ Y′ → (z ≡ z′) × (Y ≡ Y′)
-one-move = bytes-unique
+-- cells say one move
+pub one-move : (most z z′ : ℕ) (Y Y′ : List ℕ) → asCells most z Y ≡ asCells most z′ Y′ → (z ≡ z′) × (Y ≡ Y′)
+one-move = cells-unique
 
 -- carrying out logged moves keeps the signature, and every one takes a member at least
 pub replay-keeps-signature : (size n most : ℕ) → 2 ^ n ≤ size → (m : List ℕ) (moves : List (List ℕ)) (m′ : List ℕ) → SoundMarks size n m → Replays most n m moves m′
@@ -116,13 +116,13 @@ odd-set-keeps-signature = odd-set-signature
 -- ---- up to eight wires
 
 -- the marks have room, Y may have as many members as the bound's proof needs, and an entry has productBits bits
-pub limits-suffice : (n : ℕ) → n ≤ maxWires → (2 ^ n ≤ weightBytes) × (tri n + 1 ≤ maxMembers) × (tri maxWires ≡ productBits)
+pub limits-suffice : (n : ℕ) → n ≤ maxWires → (2 ^ n ≤ parities) × (tri n + 1 ≤ maxMembers) × (tri maxWires ≡ productBits)
 unfolding tri
 limits-suffice n h = (pow-mono {i = n} {j = maxWires} h, few, refl)
   where
     few : n * (n + 1) / 2 + 1 ≤ maxMembers
     few = omega (arith, tri-mono n maxWires h)
 
--- document 01's numbers: entries of 36 bits, forty bytes a move, a log of 10,200
-pub limits-numbers : (productBits ≡ 36) × (moveBytes ≡ 40) × (logBytes ≡ 10200)
+-- document 01's numbers: entries of 36 bits, cells a move, a log of 10,200
+pub limits-numbers : (productBits ≡ 36) × (moveCells ≡ 40) × (logCells ≡ 10200)
 limits-numbers = (refl, refl, refl)

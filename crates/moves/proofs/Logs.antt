@@ -1,4 +1,4 @@
--- The bytes of a move say which move it is; and what a log keeps when more is written to it.
+-- The cells of a move say which move it is; and what a log keeps when more is written to it.
 use mathlib.Core.List.{List, [], _++_, _∷_, append-assoc}
 use mathlib.Core.Logic.{_↔_}
 use mathlib.Core.Path.{_∙_, _≡_, ap, ap₂, refl, sym}
@@ -9,45 +9,45 @@ use lib.ListN.{drop, getD, length, length-append, length-drop, length-replicate,
 use lib.Seq.{drop-at, ext-getD, getD-append-add, getD-drop, length-take-le, set-append-seam, take-add, take-append-seam, take-at, take-take}
 use borrow.Author.Tests.{le-leb, lt-leb}
 use Rattle.gf2.proofs.Combination.{getD-zeros}
-use Rattle.moves.specs.Log.{LegalBytes, asBytes, logged, moveAt, setOf, zOf}
+use Rattle.moves.specs.Log.{LegalCells, asCells, logged, moveAt, setOf, zOf}
 use Rattle.moves.specs.Move.{Legal}
 
--- ---- the bytes of a move
+-- ---- the cells of a move
 
 module _ (most z : ℕ) (Y : List ℕ) where
-  pub bytes-z : getD (asBytes most z Y) 0 0 ≡ z
-  unfolding asBytes
-  bytes-z = refl
+  pub cells-z : getD (asCells most z Y) 0 0 ≡ z
+  unfolding asCells
+  cells-z = refl
 
-  pub bytes-count : getD (asBytes most z Y) 1 0 ≡ length Y
-  unfolding asBytes
-  bytes-count = refl
+  pub cells-count : getD (asCells most z Y) 1 0 ≡ length Y
+  unfolding asCells
+  cells-count = refl
 
-  pub bytes-set : take (length Y) (drop 2 (asBytes most z Y)) ≡ Y
-  unfolding asBytes
-  bytes-set = take-append-seam Y (replicate (most - length Y) 0)
+  pub cells-set : take (length Y) (drop 2 (asCells most z Y)) ≡ Y
+  unfolding asCells
+  cells-set = take-append-seam Y (replicate (most - length Y) 0)
 
-  pub bytes-length : length Y ≤ most → length (asBytes most z Y) ≡ most + 2
-  unfolding asBytes
-  bytes-length h = omega (arith, length-append Y (replicate (most - length Y) 0), length-replicate {A = ℕ} (most - length Y) 0)
+  pub cells-length : length Y ≤ most → length (asCells most z Y) ≡ most + 2
+  unfolding asCells
+  cells-length h = omega (arith, length-append Y (replicate (most - length Y) 0), length-replicate {A = ℕ} (most - length Y) 0)
 
   -- zeros after Y
-  pub bytes-rest : (i : ℕ) → length Y + 2 ≤ i → getD (asBytes most z Y) i 0 ≡ 0
-  unfolding asBytes
-  bytes-rest i h =
+  pub cells-rest : (i : ℕ) → length Y + 2 ≤ i → getD (asCells most z Y) i 0 ≡ 0
+  unfolding asCells
+  cells-rest i h =
       let j : ℕ = i - (length Y + 2) in
       let e : i ≡ suc (suc (length Y + j)) = omega arith in
       rw e (getD-append-add Y (replicate (most - length Y) 0) j 0 ∙ getD-zeros (most - length Y) j)
 
 -- for code that writes them: no Y yet, and one number more
-pub bytes-none : (most z : ℕ) → asBytes most z [] ≡ z ∷ 0 ∷ replicate most 0
-unfolding asBytes
-bytes-none most z = let e : most - 0 ≡ most = omega arith in rw e
+pub cells-none : (most z : ℕ) → asCells most z [] ≡ z ∷ 0 ∷ replicate most 0
+unfolding asCells
+cells-none most z = let e : most - 0 ≡ most = omega arith in rw e
 
-pub bytes-more : (most z : ℕ) (Y : List ℕ) (y : ℕ) → length Y < most
-    → set (set (asBytes most z Y) (length Y + 2) y) 1 (length Y + 1) ≡ asBytes most z (Y ++ (y ∷ []))
-unfolding asBytes
-bytes-more most z Y y h =
+pub cells-more : (most z : ℕ) (Y : List ℕ) (y : ℕ) → length Y < most
+    → set (set (asCells most z Y) (length Y + 2) y) 1 (length Y + 1) ≡ asCells most z (Y ++ (y ∷ []))
+unfolding asCells
+cells-more most z Y y h =
     let d : ℕ = most - suc (length Y) in
     let e : most - length Y ≡ suc d = omega arith in
     let place : length Y + 2 ≡ suc (suc (length Y)) = omega arith in
@@ -55,27 +55,27 @@ bytes-more most z Y y h =
     let left : most - (length Y + 1) ≡ d = omega arith in
     rw (e, place, more, left, set-append-seam Y 0 (replicate d 0) y, append-assoc Y (y ∷ []) (replicate d 0))
 
--- the bytes of a move say that move
-pub bytes-say : (most z : ℕ) (Y bytes : List ℕ) → bytes ≡ asBytes most z Y → (zOf bytes ≡ z) × (setOf bytes ≡ Y)
-bytes-say most z Y bytes e = (
-  ap (λ (f : List ℕ). getD f 0 0) e ∙ bytes-z most z Y,
-  ap (λ (f : List ℕ). take (getD f 1 0) (drop 2 f)) e ∙ ap (λ (c : ℕ). take c (drop 2 (asBytes most z Y))) (bytes-count most z Y) ∙ bytes-set most z Y,
+-- the cells of a move say that move
+pub cells-say : (most z : ℕ) (Y cells : List ℕ) → cells ≡ asCells most z Y → (zOf cells ≡ z) × (setOf cells ≡ Y)
+cells-say most z Y cells e = (
+  ap (λ (f : List ℕ). getD f 0 0) e ∙ cells-z most z Y,
+  ap (λ (f : List ℕ). take (getD f 1 0) (drop 2 f)) e ∙ ap (λ (c : ℕ). take c (drop 2 (asCells most z Y))) (cells-count most z Y) ∙ cells-set most z Y,
 )
 
 -- and no other
-pub bytes-unique : (most z z′ : ℕ) (Y Y′ : List ℕ) → asBytes most z Y ≡ asBytes most z′ Y′ → (z ≡ z′) × (Y ≡ Y′)
-bytes-unique most z z′ Y Y′ e =
-    let s = bytes-say most z Y (asBytes most z Y) refl in
-    let t = bytes-say most z′ Y′ (asBytes most z Y) e in
+pub cells-unique : (most z z′ : ℕ) (Y Y′ : List ℕ) → asCells most z Y ≡ asCells most z′ Y′ → (z ≡ z′) × (Y ≡ Y′)
+cells-unique most z z′ Y Y′ e =
+    let s = cells-say most z Y (asCells most z Y) refl in
+    let t = cells-say most z′ Y′ (asCells most z Y) e in
     (sym (s .0) ∙ t .0, sym (s .1) ∙ t .1)
 
--- bytes with a count that fits and zeros after the set are those of the move that they say
-pub said-bytes : (most : ℕ) (bytes : List ℕ) → length bytes ≡ most + 2 → getD bytes 1 0 ≤ most
-    → ((i : ℕ) → getD bytes 1 0 + 2 ≤ i → i < most + 2 → getD bytes i 0 ≡ 0) → bytes ≡ asBytes most (zOf bytes) (setOf bytes)
-unfolding asBytes
-said-bytes most [] len few zeroes = absurd (omega arith)
-said-bytes most (z ∷ []) len few zeroes = absurd (omega arith)
-said-bytes most (z ∷ c ∷ rest) len few zeroes =
+-- cells with a count that fits and zeros after the set are those of the move that they say
+pub said-cells : (most : ℕ) (cells : List ℕ) → length cells ≡ most + 2 → getD cells 1 0 ≤ most
+    → ((i : ℕ) → getD cells 1 0 + 2 ≤ i → i < most + 2 → getD cells i 0 ≡ 0) → cells ≡ asCells most (zOf cells) (setOf cells)
+unfolding asCells
+said-cells most [] len few zeroes = absurd (omega arith)
+said-cells most (z ∷ []) len few zeroes = absurd (omega arith)
+said-cells most (z ∷ c ∷ rest) len few zeroes =
     rw (length-take-le c rest (omega arith)) (ap (λ (r : List ℕ). z ∷ c ∷ r) (sym (take-append-drop c rest) ∙ ap (λ (r : List ℕ). take c rest ++ r) left))
   where
     left : drop c rest ≡ replicate (most - c) 0
@@ -83,30 +83,30 @@ said-bytes most (z ∷ c ∷ rest) len few zeroes =
         ext-getD 0 (drop c rest) (replicate (most - c) 0) (omega (arith, length-drop c rest, length-replicate {A = ℕ} (most - c) 0))
         (λ i l. getD-drop c rest i 0 ∙ zeroes (suc (suc (c + i))) (omega arith) (omega (arith, length-drop c rest)) ∙ sym (getD-zeros (most - c) i))
 
--- what code can look at, one after another, where bytes are to be a legal move
-pub record Checked (most n : ℕ) (marks bytes : List ℕ) : Type 0 where
-  pub long : length bytes ≡ most + 2
-  pub count : getD bytes 1 0 ≤ most
-  pub zeroes : (i : ℕ) → getD bytes 1 0 + 2 ≤ i → i < most + 2 → getD bytes i 0 ≡ 0
-  pub legal : Legal most n marks (zOf bytes) (setOf bytes)
+-- what code can look at, one after another, where cells are to be a legal move
+pub record Checked (most n : ℕ) (marks cells : List ℕ) : Type 0 where
+  pub long : length cells ≡ most + 2
+  pub count : getD cells 1 0 ≤ most
+  pub zeroes : (i : ℕ) → getD cells 1 0 + 2 ≤ i → i < most + 2 → getD cells i 0 ≡ 0
+  pub legal : Legal most n marks (zOf cells) (setOf cells)
 
-pub bytes-checked : (most n : ℕ) (marks bytes : List ℕ) → LegalBytes most n marks bytes ↔ Checked most n marks bytes
-bytes-checked most n marks bytes = (
-  λ f. let s = bytes-say most (f .z) (f .Y) bytes (f .is) in
-      let c : getD bytes 1 0 ≡ length (f .Y) = ap (λ (b : List ℕ). getD b 1 0) (f .is) ∙ bytes-count most (f .z) (f .Y) in
+pub cells-checked : (most n : ℕ) (marks cells : List ℕ) → LegalCells most n marks cells ↔ Checked most n marks cells
+cells-checked most n marks cells = (
+  λ f. let s = cells-say most (f .z) (f .Y) cells (f .is) in
+      let c : getD cells 1 0 ≡ length (f .Y) = ap (λ (b : List ℕ). getD b 1 0) (f .is) ∙ cells-count most (f .z) (f .Y) in
       record {
-        long = ap length (f .is) ∙ bytes-length most (f .z) (f .Y) (f .legal .few);
+        long = ap length (f .is) ∙ cells-length most (f .z) (f .Y) (f .legal .few);
         count = omega (arith, f .legal .few);
-        zeroes = λ i l h. ap (λ (b : List ℕ). getD b i 0) (f .is) ∙ bytes-rest most (f .z) (f .Y) i (omega arith);
+        zeroes = λ i l h. ap (λ (b : List ℕ). getD b i 0) (f .is) ∙ cells-rest most (f .z) (f .Y) i (omega arith);
         legal = rw (s .0, s .1) (f .legal);
       },
-  λ h. record { z = zOf bytes; Y = setOf bytes; is = said-bytes most bytes (h .long) (h .count) (h .zeroes); legal = h .legal },
+  λ h. record { z = zOf cells; Y = setOf cells; is = said-cells most cells (h .long) (h .count) (h .zeroes); legal = h .legal },
 )
 
 -- ---- a log
 
 module _ (size : ℕ) (log : List ℕ) (k : ℕ) where
-  -- empty if the log has fewer bytes
+  -- empty if the log has fewer cells
   pub move-short : length log < size * k + size → moveAt size log k ≡ []
   unfolding moveAt
   move-short h = simp (lt-leb (size * k + size) (length log) h)
@@ -147,17 +147,17 @@ logged-length size zero log = refl
 logged-length size (suc m) log = omega (arith, length-append (logged size log m) (moveAt size log m ∷ []), logged-length size m log)
 
 -- one more move, written after m
-pub logged-more : (size m : ℕ) (log bytes : List ℕ) → length bytes ≡ size → size * m + size ≤ length log
-    → logged size (take (size * m) log ++ bytes ++ drop (size * m + size) log) (suc m) ≡ logged size log m ++ (bytes ∷ [])
+pub logged-more : (size m : ℕ) (log cells : List ℕ) → length cells ≡ size → size * m + size ≤ length log
+    → logged size (take (size * m) log ++ cells ++ drop (size * m + size) log) (suc m) ≡ logged size log m ++ (cells ∷ [])
 unfolding logged
-logged-more size m log bytes len room =
+logged-more size m log cells len room =
     let j : ℕ = size * m in
     let after : List ℕ = drop (j + size) log in
-    let new : List ℕ = take j log ++ bytes ++ after in
+    let new : List ℕ = take j log ++ cells ++ after in
     let front : length (take j log) ≡ j = length-take-le j log (omega arith) in
     let long : length new ≡ length log =
-    omega (arith, length-append (take j log ++ bytes) after, length-append (take j log) bytes, length-drop (j + size) log) in
+    omega (arith, length-append (take j log ++ cells) after, length-append (take j log) cells, length-drop (j + size) log) in
     ap₂ (λ (fs : List (List ℕ)) (f : List ℕ). fs ++ (f ∷ []))
-    (logged-same size m new log long (ap (take j) (append-assoc (take j log) bytes after) ∙ take-at (take j log) (bytes ++ after) j front))
-    (move-whole size new m (omega arith) ∙ ap (take size) (ap (drop j) (append-assoc (take j log) bytes after) ∙ drop-at (take j log) (bytes ++ after) j front)
-    ∙ take-at bytes after size len)
+    (logged-same size m new log long (ap (take j) (append-assoc (take j log) cells after) ∙ take-at (take j log) (cells ++ after) j front))
+    (move-whole size new m (omega arith) ∙ ap (take size) (ap (drop j) (append-assoc (take j log) cells after) ∙ drop-at (take j log) (cells ++ after) j front)
+    ∙ take-at cells after size len)

@@ -10,7 +10,7 @@ use Rattle.phase.specs.Signature.{SameSignature}
 use Rattle.moves.proofs.Keep.{keeps, sound-kept}
 use Rattle.moves.proofs.Shrink.{shrinks}
 use Rattle.moves.specs.CarryOut.{carryOut}
-use Rattle.moves.specs.Log.{LegalBytes}
+use Rattle.moves.specs.Log.{LegalCells}
 use Rattle.moves.specs.Replay.{Replays}
 
 pub signature-same : (n : ℕ) (w : List ℕ) → SameSignature n w w
@@ -27,11 +27,11 @@ unfolding Replays
 replays-none most n m = refl
 
 -- one more move, legal on the marks that the last one left
-pub replays-more : (most n : ℕ) (m : List ℕ) (moves : List (List ℕ)) (m′ bytes : List ℕ) (f : LegalBytes most n m′ bytes) → Replays most n m moves m′
-    → Replays most n m (moves ++ (bytes ∷ [])) (carryOut m′ (f .z) (f .Y))
+pub replays-more : (most n : ℕ) (m : List ℕ) (moves : List (List ℕ)) (m′ cells : List ℕ) (f : LegalCells most n m′ cells) → Replays most n m moves m′
+    → Replays most n m (moves ++ (cells ∷ [])) (carryOut m′ (f .z) (f .Y))
 unfolding Replays
-replays-more most n m [] m′ bytes f e = subst (λ (x : List ℕ). Replays most n x (bytes ∷ []) (carryOut m′ (f .z) (f .Y))) (sym e) (f, refl)
-replays-more most n m (g ∷ moves) m′ bytes f r = (r .0, replays-more most n (carryOut m (r .0 .z) (r .0 .Y)) moves m′ bytes f (r .1))
+replays-more most n m [] m′ cells f e = subst (λ (x : List ℕ). Replays most n x (cells ∷ []) (carryOut m′ (f .z) (f .Y))) (sym e) (f, refl)
+replays-more most n m (g ∷ moves) m′ cells f r = (r .0, replays-more most n (carryOut m (r .0 .z) (r .0 .Y)) moves m′ cells f (r .1))
 
 -- ---- what replaying does
 
@@ -39,15 +39,15 @@ module _ (size n most : ℕ) (room : 2 ^ n ≤ size) where
   pub replays-sound : (m : List ℕ) (moves : List (List ℕ)) (m′ : List ℕ) → SoundMarks size n m → Replays most n m moves m′ → SoundMarks size n m′
   unfolding Replays
   replays-sound m [] m′ sound e = subst (λ (x : List ℕ). SoundMarks size n x) e sound
-  replays-sound m (bytes ∷ moves) m′ sound r =
-      let f : LegalBytes most n m bytes = r .0 in
+  replays-sound m (cells ∷ moves) m′ sound r =
+      let f : LegalCells most n m cells = r .0 in
       replays-sound (carryOut m (f .z) (f .Y)) moves m′ (sound-kept size n most room m sound (f .z) (f .Y) (f .legal)) (r .1)
 
   pub replays-signature : (m : List ℕ) (moves : List (List ℕ)) (m′ : List ℕ) → SoundMarks size n m → Replays most n m moves m′ → SameSignature n m′ m
   unfolding Replays
   replays-signature m [] m′ sound e = subst (λ (x : List ℕ). SameSignature n x m) e (signature-same n m)
-  replays-signature m (bytes ∷ moves) m′ sound r =
-      let f : LegalBytes most n m bytes = r .0 in
+  replays-signature m (cells ∷ moves) m′ sound r =
+      let f : LegalCells most n m cells = r .0 in
       let next : List ℕ = carryOut m (f .z) (f .Y) in
       signature-trans n m′ next m
       (replays-signature next moves m′ (sound-kept size n most room m sound (f .z) (f .Y) (f .legal)) (r .1))
@@ -56,8 +56,8 @@ module _ (size n most : ℕ) (room : 2 ^ n ≤ size) where
   pub replays-shrinks : (m : List ℕ) (moves : List (List ℕ)) (m′ : List ℕ) → SoundMarks size n m → Replays most n m moves m′ → length moves + members m′ ≤ members m
   unfolding Replays
   replays-shrinks m [] m′ sound e = omega (arith, ap members e)
-  replays-shrinks m (bytes ∷ moves) m′ sound r =
-      let f : LegalBytes most n m bytes = r .0 in
+  replays-shrinks m (cells ∷ moves) m′ sound r =
+      let f : LegalCells most n m cells = r .0 in
       omega (
         arith,
         replays-shrinks (carryOut m (f .z) (f .Y)) moves m′ (sound-kept size n most room m sound (f .z) (f .Y) (f .legal)) (r .1),

@@ -7,7 +7,7 @@ use lib.Dec.{eqb, leb, ltb}
 use lib.ListN.{getD, length}
 use Rattle.circuit.specs.Sound.{weight}
 use Rattle.gf2.specs.Over.{sumOver, xorAll}
-use Rattle.moves.specs.Log.{asBytes, setOf, zOf}
+use Rattle.moves.specs.Log.{asCells, setOf, zOf}
 use Rattle.moves.specs.Move.{triple}
 
 -- the test holds of every number below k
@@ -44,12 +44,12 @@ unfoldable pub isLegal : ℕ → ℕ → List ℕ → ℕ → List ℕ → Bool
 isLegal most n marks z Y = leb (length Y) most && isAscending Y && areMembers marks Y && isSeparating marks z Y && isBalanced n z Y
 
 -- two lists are equal
-unfoldable pub sameBytes : List ℕ → List ℕ → Bool
-sameBytes [] [] = true
-sameBytes [] (y ∷ ys) = false
-sameBytes (x ∷ xs) [] = false
-sameBytes (x ∷ xs) (y ∷ ys) = eqb x y && sameBytes xs ys
+unfoldable pub sameCells : List ℕ → List ℕ → Bool
+sameCells [] [] = true
+sameCells [] (y ∷ ys) = false
+sameCells (x ∷ xs) [] = false
+sameCells (x ∷ xs) (y ∷ ys) = eqb x y && sameCells xs ys
 
--- the bytes are those of a legal move for these marks
+-- the cells are those of a legal move for these marks
 unfoldable pub isMove : ℕ → ℕ → List ℕ → List ℕ → Bool
-isMove most n marks bytes = sameBytes bytes (asBytes most (zOf bytes) (setOf bytes)) && isLegal most n marks (zOf bytes) (setOf bytes)
+isMove most n marks cells = sameCells cells (asCells most (zOf cells) (setOf cells)) && isLegal most n marks (zOf cells) (setOf cells)

@@ -1,4 +1,4 @@
--- Document 01, "Legal moves": the bytes of a move, a log of moves, and move k of a log. `most` is the most that Y may have, `size` the bytes of a move.
+-- Document 01, "Legal moves": the cells of a move, a log of moves, and move k of a log. `most` is the most that Y may have, `size` the cells of a move.
 use mathlib.Core.Bool.{cond}
 use mathlib.Core.List.{List, [], _++_, _∷_}
 use mathlib.Core.Path.{_≡_}
@@ -7,25 +7,25 @@ use lib.Dec.{leb}
 use lib.ListN.{drop, getD, length, replicate, take}
 use Rattle.moves.specs.Move.{Legal}
 
--- z, the number in Y, Y ascending, zeros: most + 2 bytes in all
-unfoldable pub asBytes : ℕ → ℕ → List ℕ → List ℕ
-asBytes most z Y = z ∷ length Y ∷ (Y ++ replicate (most - length Y) 0)
+-- z, the number in Y, Y ascending, zeros: most + 2 cells in all
+unfoldable pub asCells : ℕ → ℕ → List ℕ → List ℕ
+asCells most z Y = z ∷ length Y ∷ (Y ++ replicate (most - length Y) 0)
 
--- the z and the Y that bytes say
+-- the z and the Y that cells say
 abbrev pub zOf : List ℕ → ℕ
-zOf bytes = getD bytes 0 0
+zOf cells = getD cells 0 0
 
 abbrev pub setOf : List ℕ → List ℕ
-setOf bytes = take (getD bytes 1 0) (drop 2 bytes)
+setOf cells = take (getD cells 1 0) (drop 2 cells)
 
--- the bytes are those of a legal move for these marks
-pub record LegalBytes (most n : ℕ) (marks bytes : List ℕ) : Type 0 where
+-- the cells are those of a legal move for these marks
+pub record LegalCells (most n : ℕ) (marks cells : List ℕ) : Type 0 where
   pub z : ℕ
   pub Y : List ℕ
-  pub is : bytes ≡ asBytes most z Y
+  pub is : cells ≡ asCells most z Y
   pub legal : Legal most n marks z Y
 
--- the bytes of move k, counted from 0, as part of the log; empty if the log has fewer than size·k + size bytes
+-- the cells of move k, counted from 0, as part of the log; empty if the log has fewer than size·k + size cells
 unfoldable pub moveAt : ℕ → List ℕ → ℕ → List ℕ
 moveAt size log k = cond (leb (size * k + size) (length log)) (take size (drop (size * k) log)) []
 

@@ -3,9 +3,9 @@ use mathlib.Core.List.{List, [], _∷_}
 use mathlib.Core.Path.{_≡_}
 use Prim.Native.Nat.{ℕ}
 use Rattle.moves.specs.CarryOut.{carryOut}
-use Rattle.moves.specs.Log.{LegalBytes}
+use Rattle.moves.specs.Log.{LegalCells}
 
 -- from the marks m, each move is legal on the marks that the one before left; the last one leaves the marks m′
 unfoldable pub Replays : ℕ → ℕ → List ℕ → List (List ℕ) → List ℕ → Type 0
 Replays most n m [] m′ = m ≡ m′
-Replays most n m (bytes ∷ moves) m′ = (f : LegalBytes most n m bytes) × Replays most n (carryOut m (f .z) (f .Y)) moves m′
+Replays most n m (cells ∷ moves) m′ = (f : LegalCells most n m cells) × Replays most n (carryOut m (f .z) (f .Y)) moves m′

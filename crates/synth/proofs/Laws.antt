@@ -11,7 +11,7 @@ use Rattle.circuit.proofs.Steps.{tables}
 use Rattle.circuit.specs.Entry.{readBytes}
 use Rattle.circuit.specs.Faults.{AllWellFormed}
 use Rattle.circuit.specs.Gate.{Gate, kindOf}
-use Rattle.circuit.specs.Limits.{gateBytes, maxWires, maxWrittenGates, rowBytes, writtenGates}
+use Rattle.circuit.specs.Limits.{gateBytes, maxWires, maxWrittenGates, rowCells, writtenGates}
 use Rattle.circuit.specs.Read.{Reading, start}
 use Rattle.circuit.specs.Run.{run}
 use Rattle.circuit.specs.Says.{says}
@@ -43,8 +43,8 @@ kinds-are-counted N n fit kind v e gs f = kinds-total kind v e N n fit gs (start
 -- ---- demand 1: the reply of `write`
 
 -- fault 7 exactly where the rows are not sound: not 8, with a bit or row beyond n, or not invertible
-pub no-fault-sound-rows : (n : ℕ) (rows : List ℕ) → (rowsFault rowBytes n rows ≡ 0) ↔ SoundRows maxWires n rows
-no-fault-sound-rows n rows = rows-sound rowBytes n rows
+pub no-fault-sound-rows : (n : ℕ) (rows : List ℕ) → (rowsFault rowCells n rows ≡ 0) ↔ SoundRows maxWires n rows
+no-fault-sound-rows n rows = rows-sound rowCells n rows
 
 -- a call has no fault exactly where everything is sound and there is room
 pub no-fault-writable : (n : ℕ) (w rows : List ℕ) (gates : ℕ) → (writeFault n w rows gates ≡ 0) ↔ Writable n w rows gates

@@ -12,7 +12,7 @@ use lib.ListN.{length, length-append}
 use lib.Pow.{pow-mono}
 use Rattle.circuit.proofs.Steps.{shifted}
 use Rattle.circuit.specs.Gate.{Gate, gate}
-use Rattle.circuit.specs.Limits.{maxWires, weightBytes}
+use Rattle.circuit.specs.Limits.{maxWires, parities}
 use Rattle.circuit.specs.Sound.{weight}
 use Rattle.gf2.proofs.Leading.{bit-inside, bit-lowest}
 use Rattle.gf2.specs.Bit.{bit}
@@ -98,7 +98,7 @@ parity-parts n p zero q h e = absurd (h refl)
 parity-parts n p (suc v) q h e = rw e
 
 -- CNOTs, the spelling, CNOTs: there is room for each, and together they are the parity
-module _ (g : List ℕ) (k n p v : ℕ) (some : v ≢ 0) (off : p ≡ 0 → v ≡ 0) (less : p < weightBytes) where
+module _ (g : List ℕ) (k n p v : ℕ) (some : v ≢ 0) (off : p ≡ 0 → v ≡ 0) (less : p < parities) where
   pub lowest-below : lowest maxWires p < maxWires
   lowest-below = let ne : p ≢ 0 = λ e. some (off e) in bit-inside maxWires p (lowest maxWires p) less (bit-lowest maxWires p ne less)
 
@@ -130,7 +130,7 @@ module _ (g : List ℕ) (k n p v : ℕ) (some : v ≢ 0) (off : p ≡ 0 → v �
 
 -- ---- all parities
 
-pub parities-fit : (n : ℕ) → n ≤ maxWires → 2 ^ n ≤ weightBytes
+pub parities-fit : (n : ℕ) → n ≤ maxWires → 2 ^ n ≤ parities
 parities-fit n h = pow-mono {i = n} {j = maxWires} h
 
 pub phases-first : (g : List ℕ) (n : ℕ) (w : List ℕ) → Stored g g 0 0 (writePhases maxWires n w 0)

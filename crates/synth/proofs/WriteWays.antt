@@ -10,7 +10,7 @@ use lib.Pow.{pow-mono}
 use Rattle.circuit.proofs.Judging.{or-pass, or-well, short-pass, short-well}
 use Rattle.circuit.specs.Faults.{Accepted, orElse, shortFault}
 use Rattle.circuit.specs.Gate.{Gate, bytesOf, gatesOf}
-use Rattle.circuit.specs.Limits.{gateBytes, maxWires, maxWrittenGates, rowBytes, weightBytes, writeBytes, writtenGates}
+use Rattle.circuit.specs.Limits.{gateBytes, maxWires, maxWrittenGates, parities, rowCells, writeBytes, writtenGates}
 use Rattle.circuit.specs.Sound.{SoundRows, SoundWeights}
 use Rattle.weights.proofs.TableRule.{weights-sound}
 use Rattle.weights.proofs.Ways.{call-passes, passes-call}
@@ -37,31 +37,31 @@ longest n h =
 module _ (n : ℕ) (w rows : List ℕ) (gates : ℕ) where
   pub call-refuses : (f : ℕ) → f ≡ callFault n (shortFault gates writeBytes) (weightsFault n w) → f ≢ 0 → f ≡ writeFault n w rows gates
   unfolding writeFault
-  call-refuses f e h = or-first f (rowsFault rowBytes n rows) h ∙ ap (λ (x : ℕ). orElse x (rowsFault rowBytes n rows)) e
+  call-refuses f e h = or-first f (rowsFault rowCells n rows) h ∙ ap (λ (x : ℕ). orElse x (rowsFault rowCells n rows)) e
 
-  pub rows-decide : (f : ℕ) → f ≡ callFault n (shortFault gates writeBytes) (weightsFault n w) → f ≡ 0 → rowsFault rowBytes n rows ≡ writeFault n w rows gates
+  pub rows-decide : (f : ℕ) → f ≡ callFault n (shortFault gates writeBytes) (weightsFault n w) → f ≡ 0 → rowsFault rowCells n rows ≡ writeFault n w rows gates
   unfolding writeFault
-  rows-decide f e z = or-second (callFault n (shortFault gates writeBytes) (weightsFault n w)) (rowsFault rowBytes n rows) (sym e ∙ z)
+  rows-decide f e z = or-second (callFault n (shortFault gates writeBytes) (weightsFault n w)) (rowsFault rowCells n rows) (sym e ∙ z)
 
   pub fault-ready : writeFault n w rows gates ≡ 0 → Writable n w rows gates
   unfolding writeFault
   fault-ready e =
-      let a = or-pass (callFault n (shortFault gates writeBytes) (weightsFault n w)) (rowsFault rowBytes n rows) e in
+      let a = or-pass (callFault n (shortFault gates writeBytes) (weightsFault n w)) (rowsFault rowCells n rows) e in
       let b = call-passes n (shortFault gates writeBytes) (weightsFault n w) (a .0) in
       record {
         some = b .0;
         few = b .1;
         room = short-pass gates writeBytes (b .2);
-        weights-sound = weights-sound weightBytes n w .0 (b .3);
-        rows-sound = rows-sound rowBytes n rows .0 (a .1);
+        weights-sound = weights-sound parities n w .0 (b .3);
+        rows-sound = rows-sound rowCells n rows .0 (a .1);
       }
 
   pub ready-faultless : Writable n w rows gates → writeFault n w rows gates ≡ 0
   unfolding writeFault
   ready-faultless r =
-      or-well (callFault n (shortFault gates writeBytes) (weightsFault n w)) (rowsFault rowBytes n rows)
-      (passes-call n (shortFault gates writeBytes) (weightsFault n w) (r .some) (r .few) (short-well gates writeBytes (r .room)) (weights-sound weightBytes n w .1 (r .weights-sound)))
-      (rows-sound rowBytes n rows .1 (r .rows-sound))
+      or-well (callFault n (shortFault gates writeBytes) (weightsFault n w)) (rowsFault rowCells n rows)
+      (passes-call n (shortFault gates writeBytes) (weightsFault n w) (r .some) (r .few) (short-well gates writeBytes (r .room)) (weights-sound parities n w .1 (r .weights-sound)))
+      (rows-sound rowCells n rows .1 (r .rows-sound))
 
 -- ---- the ways out
 
@@ -89,10 +89,10 @@ module _ (n : ℕ) (w rows g : List ℕ) (ready : Writable n w rows (length g)) 
   room : Room g 0 (writePhases maxWires n w (2 ^ n) ++ writeRows n rows)
   room = omega (arith, wrote .short, longest n (ready .few), ready .room)
 
-  pub phases-ready : (n ≤ maxWires) × SoundWeights weightBytes n w × Room g 0 (writePhases maxWires n w (2 ^ n))
+  pub phases-ready : (n ≤ maxWires) × SoundWeights parities n w × Room g 0 (writePhases maxWires n w (2 ^ n))
   phases-ready = (ready .few, ready .weights-sound, room-first g 0 (writePhases maxWires n w (2 ^ n)) (writeRows n rows) room)
 
-  pub rows-long : length rows ≡ rowBytes
+  pub rows-long : length rows ≡ rowCells
   rows-long = ready .rows-sound .long
 
   -- m is the copy of the rows

@@ -5,7 +5,7 @@ use lib.Dec.{eqb, leb, ltb}
 use lib.ListN.{length}
 use Rattle.gf2.specs.Selection.{combine}
 use Rattle.circuit.specs.Faults.{orElse, shortFault}
-use Rattle.circuit.specs.Limits.{maxWires, rowBytes, weightBytes, writeBytes}
+use Rattle.circuit.specs.Limits.{maxWires, parities, rowCells, writeBytes}
 use Rattle.circuit.specs.Read.{either}
 use Rattle.circuit.specs.Sound.{SoundRows, SoundWeights}
 use Rattle.weights.specs.Faults.{callFault, weightsFault}
@@ -15,7 +15,7 @@ pub record Writable (n : ℕ) (weights rows : List ℕ) (gates : ℕ) : Type 0 w
   pub some : 1 ≤ n
   pub few : n ≤ maxWires
   pub room : writeBytes ≤ gates
-  pub weights-sound : SoundWeights weightBytes n weights
+  pub weights-sound : SoundWeights parities n weights
   pub rows-sound : SoundRows maxWires n rows
 
 -- ---- the same, computed
@@ -44,4 +44,4 @@ rowsFault N n rows = either (eqb (length rows) N) (orElse (beyondFault n 0 rows)
 
 -- 1, 8, 6, then 7, by the weights, the rows and the length of the gates lent
 unfoldable pub writeFault : ℕ → List ℕ → List ℕ → ℕ → ℕ
-writeFault n weights rows gates = orElse (callFault n (shortFault gates writeBytes) (weightsFault n weights)) (rowsFault rowBytes n rows)
+writeFault n weights rows gates = orElse (callFault n (shortFault gates writeBytes) (weightsFault n weights)) (rowsFault rowCells n rows)

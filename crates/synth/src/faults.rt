@@ -2,14 +2,14 @@
 ghost use mathlib.Core.Path.{_≡_};
 ghost use Prim.Native.Nat.{_-_, _^_, _≤_};
 ghost use lib.ListN.{length};
-ghost use Rattle.circuit.specs.Limits.{maxWires, rowBytes};
+ghost use Rattle.circuit.specs.Limits.{maxWires, rowCells};
 ghost use Rattle.synth.specs.Faults.{rowMost, beyondFault, cancelFault, rowsFault, writeFault};
 use crate::masks::copied;
 use crate::masks::pivot_of;
 use crate::masks::row_step;
 use circuit::faults::short_fault;
 use circuit::limits::Parity;
-use circuit::limits::ROW_BYTES;
+use circuit::limits::ROW_CELLS;
 use circuit::limits::WRITE_BYTES;
 use weights::faults::call_fault;
 use weights::faults::weights_fault;
@@ -32,9 +32,9 @@ pub fn write_fault(n: usize, weights: &[u8], rows: &[u8], gates: usize) -> u8
 // Fault 7: rows that are not 8 bytes, have a bit or row beyond n, or are not invertible.
 fn rows_fault(n: usize, rows: &[u8]) -> u8
     requires { ⌜ n ≤ maxWires ⌝ }
-    ensures { λ r. ⌜ r ≡ rowsFault rowBytes n (now (rows .entry)) ⌝ }
+    ensures { λ r. ⌜ r ≡ rowsFault rowCells n (now (rows .entry)) ⌝ }
 {
-    if rows.len() != ROW_BYTES {
+    if rows.len() != ROW_CELLS {
         return ROW_RULE;
     }
     let fault = beyond_fault(n, rows);
@@ -71,8 +71,8 @@ fn row_most(n: usize, i: usize) -> Parity
 }
 
 // Dependent rows: some mask, on the way to 2^i, has no pivot.
-fn cancel_fault(n: usize, rows: [Parity; ROW_BYTES]) -> u8
-    requires { ⌜ (n ≤ maxWires) × (length rows ≡ rowBytes) × (beyondFault n 0 rows ≡ 0) ⌝ }
+fn cancel_fault(n: usize, rows: [Parity; ROW_CELLS]) -> u8
+    requires { ⌜ (n ≤ maxWires) × (length rows ≡ rowCells) × (beyondFault n 0 rows ≡ 0) ⌝ }
     ensures { λ r. ⌜ r ≡ cancelFault (2 ^ n - 1) rows ⌝ }
 {
     let mut masks = rows;

@@ -3,18 +3,18 @@
 ghost use mathlib.Core.Path.{_≡_};
 ghost use Prim.Native.Nat.{_*_, _<_, _≤_};
 ghost use lib.ListN.{length, getD};
-ghost use Rattle.circuit.specs.Limits.{maxWires, rowBytes};
+ghost use Rattle.circuit.specs.Limits.{maxWires, rowCells};
 ghost use Rattle.synth.specs.Writing.{recount, pivot, lack, surplus, nextMasks};
 use circuit::limits::Parity;
-use circuit::limits::ROW_BYTES;
+use circuit::limits::ROW_CELLS;
 
 // The masks start as the rows: eight lent bytes, as a value.
-pub fn copied(rows: &[u8]) -> [Parity; ROW_BYTES]
-    requires { ⌜ length (now rows) ≡ rowBytes ⌝ }
+pub fn copied(rows: &[u8]) -> [Parity; ROW_CELLS]
+    requires { ⌜ length (now rows) ≡ rowCells ⌝ }
     ensures { λ r. ⌜ r ≡ now (rows .entry) ⌝ }
 {
-    let mut masks = [0 as Parity; ROW_BYTES];
-    for i in 0..ROW_BYTES {
+    let mut masks = [0 as Parity; ROW_CELLS];
+    for i in 0..ROW_CELLS {
         masks[i] = rows[i];
     }
     masks
@@ -24,12 +24,12 @@ pub fn copied(rows: &[u8]) -> [Parity; ROW_BYTES]
 pub struct Step {
     pub lack: Parity,
     pub surplus: Parity,
-    pub masks: [Parity; ROW_BYTES],
+    pub masks: [Parity; ROW_CELLS],
 }
 
 // The row of wire r, with pivot b.
-pub fn row_step(masks: [Parity; ROW_BYTES], r: usize, b: usize) -> Step
-    requires { ⌜ (r < maxWires) × (b < maxWires) × (length masks ≡ rowBytes) ⌝ }
+pub fn row_step(masks: [Parity; ROW_CELLS], r: usize, b: usize) -> Step
+    requires { ⌜ (r < maxWires) × (b < maxWires) × (length masks ≡ rowCells) ⌝ }
     ensures { λ s. ⌜ (s .lack ≡ lack r (getD masks r 0)) × (s .surplus ≡ surplus r b masks) × (s .masks ≡ nextMasks r b masks) ⌝ }
 {
     let q = lack_of(r, masks[r]);
@@ -66,12 +66,12 @@ fn lack_of(r: usize, m: Parity) -> Parity
 }
 
 // The masks after CNOTs into wire t from the wires of q.
-fn recount_masks(masks: [Parity; ROW_BYTES], t: usize, q: Parity) -> [Parity; ROW_BYTES]
-    requires { ⌜ (t < maxWires) × (length masks ≡ rowBytes) ⌝ }
+fn recount_masks(masks: [Parity; ROW_CELLS], t: usize, q: Parity) -> [Parity; ROW_CELLS]
+    requires { ⌜ (t < maxWires) × (length masks ≡ rowCells) ⌝ }
     ensures { λ r. ⌜ r ≡ recount t q masks ⌝ }
 {
     let mut s = masks;
-    for i in 0..ROW_BYTES {
+    for i in 0..ROW_CELLS {
         s[i] = s[i] ^ only_if((s[i] >> t) % 2, q);
     }
     s

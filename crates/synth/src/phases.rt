@@ -2,7 +2,7 @@
 // Internal: the caller has found no fault.
 ghost use mathlib.Core.Path.{_≡_};
 ghost use Prim.Native.Nat.{_<_, _≤_, _^_};
-ghost use Rattle.circuit.specs.Limits.{maxWires, weightBytes};
+ghost use Rattle.circuit.specs.Limits.{maxWires, parities};
 ghost use Rattle.circuit.specs.Sound.{SoundWeights};
 ghost use Rattle.synth.specs.Storing.{Room, Stored};
 ghost use Rattle.synth.specs.Writing.{writeParity, writePhases};
@@ -13,7 +13,7 @@ use circuit::limits::Weight;
 
 // All parities, from the first gate on.
 pub fn write_phases(gates: &mut [u8], n: usize, weights: &[Weight]) -> usize
-    requires { ⌜ (n ≤ maxWires) × SoundWeights weightBytes n (now weights) × Room (now gates) 0 (writePhases maxWires n (now weights) (2 ^ n)) ⌝ }
+    requires { ⌜ (n ≤ maxWires) × SoundWeights parities n (now weights) × Room (now gates) 0 (writePhases maxWires n (now weights) (2 ^ n)) ⌝ }
     ensures { λ r. ⌜ Stored (now (gates .entry)) (now (gates .exit)) 0 r (writePhases maxWires n (now (weights .entry)) (2 ^ n)) ⌝ }
 {
     let mut k: usize = 0;

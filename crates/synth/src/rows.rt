@@ -8,10 +8,10 @@ use crate::masks::pivot_of;
 use crate::masks::row_step;
 use crate::storing::gather;
 use circuit::limits::Parity;
-use circuit::limits::ROW_BYTES;
+use circuit::limits::ROW_CELLS;
 
 // The rows, after k gates.
-pub fn write_rows(gates: &mut [u8], k: usize, n: usize, rows: [Parity; ROW_BYTES]) -> usize
+pub fn write_rows(gates: &mut [u8], k: usize, n: usize, rows: [Parity; ROW_CELLS]) -> usize
     requires { ⌜ (n ≤ maxWires) × SoundRows maxWires n rows × Room (now gates) k (writeRows n rows) ⌝ }
     ensures { λ r. ⌜ Stored (now (gates .entry)) (now (gates .exit)) k r (writeRows n rows) ⌝ }
 {

@@ -7,7 +7,7 @@ use lib.ListN.{length}
 use Rattle.circuit.proofs.Judging.{done-formed, list-pass, or-pass, refused, short-pass, wires-pass}
 use Rattle.circuit.specs.Faults.{Accepted, firstFault, listFault, orElse, refuse, shortFault, wiresFault}
 use Rattle.circuit.specs.Gate.{gatesOf}
-use Rattle.circuit.specs.Limits.{gateBytes, logBytes, maxListBytes, maxWires, writeBytes}
+use Rattle.circuit.specs.Limits.{gateBytes, logCells, maxListBytes, maxWires, writeBytes}
 use Rattle.trimmer.specs.Entry.{Done-with, Outcome, TrimList, trimFault, verdict}
 use Rattle.trimmer.specs.declared.Counts.{Counts}
 use Rattle.trimmer.specs.declared.TrimReply.the-variants.{Done, Refused}
@@ -21,18 +21,18 @@ pub record Lent (n m out log : ℕ) : Type 0 where
   pub whole : m % gateBytes ≡ 0
   pub short : m ≤ maxListBytes
   pub out-room : writeBytes ≤ out
-  pub log-room : logBytes ≤ log
+  pub log-room : logCells ≤ log
 
 lent : (n m out log : ℕ) → trimFault n m out log ≡ 0 → Lent n m out log
 unfolding trimFault
 lent n m out log e =
-    let outs : ℕ = orElse (shortFault out writeBytes) (shortFault log logBytes) in
+    let outs : ℕ = orElse (shortFault out writeBytes) (shortFault log logCells) in
     let a = or-pass (wiresFault n) (orElse (listFault m) outs) e in
     let b = or-pass (listFault m) outs (a .1) in
-    let d = or-pass (shortFault out writeBytes) (shortFault log logBytes) (b .1) in
+    let d = or-pass (shortFault out writeBytes) (shortFault log logCells) (b .1) in
     let w = wires-pass n (a .0) in
     let h = list-pass m (b .0) in
-    record { some = w .0; few = w .1; whole = h .0; short = h .1; out-room = short-pass out writeBytes (d .0); log-room = short-pass log logBytes (d .1) }
+    record { some = w .0; few = w .1; whole = h .0; short = h .1; out-room = short-pass out writeBytes (d .0); log-room = short-pass log logCells (d .1) }
 
 module _ (n : ℕ) (g out log : List ℕ) (f : ℕ) (judged : f ≡ trimFault n (length g) (length out) (length log)) where
   pub trim-refused : f ≢ 0 → TrimList n g out log out log (Refused f 0)
@@ -52,7 +52,7 @@ module _ (n : ℕ) (g out log : List ℕ) (f : ℕ) (judged : f ≡ trimFault n 
       called : Lent n (length g) (length out) (length log)
       called = lent n (length g) (length out) (length log) (sym judged ∙ clear)
 
-      pub may-trim : Accepted n g × (writeBytes ≤ length out) × (logBytes ≤ length log)
+      pub may-trim : Accepted n g × (writeBytes ≤ length out) × (logCells ≤ length log)
       may-trim = (
         record { some = called .some; few = called .few; whole = called .whole; short = called .short; formed = done-formed n 0 (gatesOf g) (sym is ∙ done) },
         called .out-room,

@@ -11,7 +11,7 @@ use Rattle.circuit.proofs.ReadRuns.{read-runs}
 use Rattle.circuit.proofs.Sound.{read-sound}
 use Rattle.circuit.specs.Faults.{AllWellFormed}
 use Rattle.circuit.specs.Gate.{Gate, tGates}
-use Rattle.circuit.specs.Limits.{maxMembers, maxWires, moveBytes, weightBytes}
+use Rattle.circuit.specs.Limits.{maxMembers, maxWires, moveCells, parities}
 use Rattle.circuit.specs.OddSet.{members, oddSet}
 use Rattle.circuit.specs.Read.{read}
 use Rattle.circuit.specs.Run.{run}
@@ -42,34 +42,34 @@ odd-set-sound size n w s =
     }
 
 module _ (n : ℕ) (fit : n ≤ maxWires) (C : List Gate) (fC : AllWellFormed n C) (log : List ℕ) (k : ℕ) (marks : List ℕ)
-    (replayed : Replays maxMembers n (oddSetOf n C) (logged moveBytes log k) marks) where
+    (replayed : Replays maxMembers n (oddSetOf n C) (logged moveCells log k) marks) where
   w : List ℕ
   w = weightsOf n C
 
-  first : SoundMarks weightBytes n (oddSetOf n C)
-  first = odd-set-sound weightBytes n (weightsOf n C) (read-sound maxWires n fit C fC .weights)
+  first : SoundMarks parities n (oddSetOf n C)
+  first = odd-set-sound parities n (weightsOf n C) (read-sound maxWires n fit C fC .weights)
 
-  pub marks-sound : SoundMarks weightBytes n marks
-  marks-sound = replays-sound weightBytes n maxMembers (limits-suffice n fit .0) (oddSetOf n C) (logged moveBytes log k) marks first replayed
+  pub marks-sound : SoundMarks parities n marks
+  marks-sound = replays-sound parities n maxMembers (limits-suffice n fit .0) (oddSetOf n C) (logged moveCells log k) marks first replayed
 
   -- moves and members left are no more than the members at first
   pub moves-afford : k + members marks ≤ members (oddSetOf n C)
-  moves-afford = omega (arith, replays-shrinks weightBytes n maxMembers (limits-suffice n fit .0) (oddSetOf n C) (logged moveBytes log k) marks first replayed, logged-length moveBytes k log)
+  moves-afford = omega (arith, replays-shrinks parities n maxMembers (limits-suffice n fit .0) (oddSetOf n C) (logged moveCells log k) marks first replayed, logged-length moveCells k log)
 
   same : SameSignature n marks (weightsOf n C)
   same =
       signature-trans n marks (oddSetOf n C) (weightsOf n C)
-      (replays-signature weightBytes n maxMembers (limits-suffice n fit .0) (oddSetOf n C) (logged moveBytes log k) marks first replayed)
+      (replays-signature parities n maxMembers (limits-suffice n fit .0) (oddSetOf n C) (logged moveCells log k) marks first replayed)
       (odd-set-has-signature n (weightsOf n C))
 
   module _ (none : (z : ℕ) (Y : List ℕ) → Legal maxMembers n marks z Y → ⊥) (D : List Gate) (fD : AllWellFormed n D)
-      (wD : weightsOf n D ≡ newWeights weightBytes n (weightsOf n C) marks) (rD : read maxWires n D .rows ≡ read maxWires n C .rows)
+      (wD : weightsOf n D ≡ newWeights parities n (weightsOf n C) marks) (rD : read maxWires n D .rows ≡ read maxWires n C .rows)
       (tD : tGates D ≡ members (oddSetOf n D)) where
     odd-D : oddSetOf n D ≡ marks
-    odd-D = ap oddSet wD ∙ new-weights-odd-set weightBytes n (limits-suffice n fit .0) (weightsOf n C) marks marks-sound same
+    odd-D = ap oddSet wD ∙ new-weights-odd-set parities n (limits-suffice n fit .0) (weightsOf n C) marks marks-sound same
 
     phases : (x : ℕ) → x < 2 ^ n → phaseAt n (weightsOf n D) x ≡ phaseAt n (weightsOf n C) x
-    phases x h = ap (λ (v : List ℕ). phaseAt n v x) wD ∙ new-weights-same-phases weightBytes n (limits-suffice n fit .0) (weightsOf n C) marks marks-sound same x h
+    phases x h = ap (λ (v : List ℕ). phaseAt n v x) wD ∙ new-weights-same-phases parities n (limits-suffice n fit .0) (weightsOf n C) marks marks-sound same x h
 
     acts : (x : ℕ) → x < 2 ^ n → run D x ≡ run C x
     acts x h =
@@ -89,11 +89,11 @@ module _ (n : ℕ) (fit : n ≤ maxWires) (C : List Gate) (fC : AllWellFormed n 
           t-out = tout ∙ sym t-D;
           one-each = tD;
           no-more = omega (arith, t-D, moves-afford, odd-set-at-most-t maxWires n fit C fC);
-          bound = omega (arith, t-D, none-legal-bound weightBytes n maxMembers (limits-suffice n fit .0) marks marks-sound (limits-suffice n fit .1) none);
+          bound = omega (arith, t-D, none-legal-bound parities n maxMembers (limits-suffice n fit .0) marks marks-sound (limits-suffice n fit .1) none);
           replayed = rw (moves, odd-D) replayed;
           weights = rw odd-D wD;
           finished = rw odd-D none;
-          moves-logged = logged-length moveBytes (counts .moves) log;
+          moves-logged = logged-length moveCells (counts .moves) log;
           t-in = tin;
           odd-size = odd;
           gates-written = gates;

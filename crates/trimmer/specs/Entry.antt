@@ -5,7 +5,7 @@ use Prim.Native.Nat.{_*_, ℕ}
 use lib.ListN.{drop, length, take}
 use Rattle.circuit.specs.Faults.{firstFault, listFault, orElse, refuse, shortFault, wiresFault}
 use Rattle.circuit.specs.Gate.{Gate, gatesOf}
-use Rattle.circuit.specs.Limits.{gateBytes, logBytes, maxWires, moveBytes, writeBytes}
+use Rattle.circuit.specs.Limits.{gateBytes, logCells, maxWires, moveCells, writeBytes}
 use Rattle.circuit.specs.Read.{read}
 use Rattle.synth.specs.Entry.{Wrote}
 use Rattle.trimmer.specs.Trimmed.{Trimmed}
@@ -17,7 +17,7 @@ use Rattle.circuit.specs.declared.Reply.the-variants as reply
 
 -- 1, 2 and 8, by the lengths of the list, the gates lent and the log lent
 unfoldable pub trimFault : ℕ → ℕ → ℕ → ℕ → ℕ
-trimFault n bytes out log = orElse (wiresFault n) (orElse (listFault bytes) (orElse (shortFault out writeBytes) (shortFault log logBytes)))
+trimFault n bytes out log = orElse (wiresFault n) (orElse (listFault bytes) (orElse (shortFault out writeBytes) (shortFault log logCells)))
 
 -- the first fault, from what goes in alone: 1, 2, 8, then 3, 4, 5 by gate; nothing else is refused
 abbrev pub verdict : ℕ → List ℕ → ℕ → ℕ → Reply
@@ -43,7 +43,7 @@ pub record Done-with (n : ℕ) (bytes out log out′ log′ : List ℕ) (counts 
   pub written : Writes-read n (writtenOf out′ (counts .gates))
   -- bytes after the last gate, and after the last move, stay untouched
   pub gates-kept : KeptFrom (gateBytes * counts .gates) out out′
-  pub log-kept : KeptFrom (moveBytes * counts .moves) log log′
+  pub log-kept : KeptFrom (moveCells * counts .moves) log log′
 
 -- what is left and replied after a verdict
 abbrev pub Outcome : Reply → ℕ → List ℕ → List ℕ → List ℕ → List ℕ → List ℕ → TrimReply → Type 0

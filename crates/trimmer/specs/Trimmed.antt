@@ -5,7 +5,7 @@ use Prim.Native.Nat.{_*_, _+_, _/_, _<_, _^_, ℕ, _≤_}
 use lib.ListN.{length}
 use Rattle.circuit.specs.Faults.{AllWellFormed}
 use Rattle.circuit.specs.Gate.{Gate, tGates}
-use Rattle.circuit.specs.Limits.{maxMembers, maxWires, moveBytes, weightBytes}
+use Rattle.circuit.specs.Limits.{maxMembers, maxWires, moveCells, parities}
 use Rattle.circuit.specs.OddSet.{members, oddSet}
 use Rattle.circuit.specs.Read.{read}
 use Rattle.circuit.specs.Run.{run}
@@ -37,13 +37,13 @@ pub record Trimmed (n : ℕ) (C D : List Gate) (log : List ℕ) (counts : Counts
   pub bound : tGates D ≤ (n * n + n) / 2 + 1
   -- the logged moves in order, the first on C's odd set and each later one on what the one before left: each is legal on the marks it
   -- gets, and the marks after the last one, or C's odd set if there is none, are D's odd set
-  pub replayed : Replays maxMembers n (oddSetOf n C) (logged moveBytes log (counts .moves)) (oddSetOf n D)
+  pub replayed : Replays maxMembers n (oddSetOf n C) (logged moveCells log (counts .moves)) (oddSetOf n D)
   -- D's weights are document 01's new weights for C and that set
-  pub weights : weightsOf n D ≡ newWeights weightBytes n (weightsOf n C) (oddSetOf n D)
+  pub weights : weightsOf n D ≡ newWeights parities n (weightsOf n C) (oddSetOf n D)
   -- no z and Y make a legal move from D's odd set
   pub finished : (z : ℕ) (Y : List ℕ) → Legal maxMembers n (oddSetOf n D) z Y → ⊥
   -- the reported number of moves is the log's: that many are read from its start, each of them legal by `replayed`
-  pub moves-logged : length (logged moveBytes log (counts .moves)) ≡ counts .moves
+  pub moves-logged : length (logged moveCells log (counts .moves)) ≡ counts .moves
   -- and the other reported counts are those of C and D
   pub t-in : counts .tin ≡ tGates C
   pub odd-size : counts .odd ≡ members (oddSetOf n C)

@@ -3,10 +3,11 @@ ghost use mathlib.Core.Path.{_≡_};
 ghost use Prim.Native.Nat.{_<_};
 ghost use lib.ListN.{length};
 ghost use Rattle.circuit.specs.Gate.{isT, tGates, gatesOf};
-ghost use Rattle.circuit.specs.Limits.{weightBytes};
+ghost use Rattle.circuit.specs.Limits.{tableBytes};
 ghost use Rattle.circuit.specs.OddSet.{members};
 use circuit::limits::GATE_BYTES;
-use circuit::limits::WEIGHT_BYTES;
+use circuit::limits::PARITIES;
+use circuit::limits::TABLE_BYTES;
 
 // How many T and T dagger gates a list holds.
 pub fn t_gates(gates: &[u8]) -> usize
@@ -33,12 +34,12 @@ fn is_t(kind: u8) -> usize
 }
 
 // How many parities are marked.
-pub fn members_of(marks: &[u8; WEIGHT_BYTES]) -> usize
-    requires { ⌜ length (now marks) ≡ weightBytes ⌝ }
+pub fn members_of(marks: &[u8; TABLE_BYTES]) -> usize
+    requires { ⌜ length (now marks) ≡ tableBytes ⌝ }
     ensures { λ r. ⌜ r ≡ members (now (marks .entry)) ⌝ }
 {
     let mut count: usize = 0;
-    for p in 0..WEIGHT_BYTES {
+    for p in 0..PARITIES {
         count += wide(marks[p]);
     }
     count

@@ -5,7 +5,7 @@
 ghost use Prim.Native.Nat.{_≤_};
 ghost use lib.ListN.{length};
 ghost use Rattle.circuit.specs.Faults.{Accepted};
-ghost use Rattle.circuit.specs.Limits.{logBytes, writeBytes};
+ghost use Rattle.circuit.specs.Limits.{logCells, writeBytes};
 ghost use Rattle.trimmer.specs.Entry.{Done-with, TrimList};
 
 pub mod counting;
@@ -63,7 +63,7 @@ pub fn trim(n: usize, gates: &[u8], out: &mut [u8], log: &mut [u8]) -> TrimReply
 
 // The trim of an accepted circuit.
 fn trim_accepted(n: usize, gates: &[u8], out: &mut [u8], log: &mut [u8]) -> Counts
-    requires { ⌜ Accepted n (now gates) × (writeBytes ≤ length (now out)) × (logBytes ≤ length (now log)) ⌝ }
+    requires { ⌜ Accepted n (now gates) × (writeBytes ≤ length (now out)) × (logCells ≤ length (now log)) ⌝ }
     ensures { λ r. ⌜ Done-with n (now (gates .entry)) (now (out .entry)) (now (log .entry)) (now (out .exit)) (now (log .exit)) r ⌝ }
 {
     let t = read_gates(n, gates);

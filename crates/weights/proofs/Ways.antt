@@ -7,7 +7,7 @@ use native.Mathlib.Omega.{arith}
 use lib.ListN.{length}
 use Rattle.circuit.proofs.Judging.{lent-pass, or-pass, or-well, refused, wires-pass, wires-well}
 use Rattle.circuit.specs.Faults.{lentFault, orElse, wiresFault}
-use Rattle.circuit.specs.Limits.{maxWires, pairBytes, tripleBytes, weightBytes}
+use Rattle.circuit.specs.Limits.{maxWires, pairBytes, parities, tableBytes, tripleBytes}
 use Rattle.circuit.specs.OddSet.{oddSet}
 use Rattle.circuit.specs.Sound.{SoundMarks, SoundWeights}
 use Rattle.circuit.specs.declared.Reply.the-variants.{Done, Refused}
@@ -15,7 +15,7 @@ use Rattle.phase.specs.NewWeights.{newWeights}
 use Rattle.weights.proofs.TableRule.{marks-sound, weights-sound}
 use Rattle.weights.specs.Entry.{CoefficientsOf, NewWeightsOf, OddSetOf, coefficientsFault, newWeightsFault, oddSetFault, replyOf, tablesFault}
 use Rattle.weights.specs.Faults.{callFault, marksFault, weightsFault}
-use Rattle.weights.specs.Tables.{cTable, lTable, qTable}
+use Rattle.weights.specs.Tables.{TablesFit, TablesOf}
 
 -- a call's fault f is the one that the definition g gives
 module _ (f g : ℕ) (e : f ≡ g) where
@@ -43,11 +43,11 @@ module _ (n : ℕ) (w m : List ℕ) (f : ℕ) (e : f ≡ oddSetFault n w (length
   odd-refused h = record { reply = refusal f (oddSetFault n w (length m)) e h; marks-left = refl }
 
   module _ (z : f ≡ 0) where
-    passed : (1 ≤ n) × (n ≤ maxWires) × (lentFault (length m) weightBytes ≡ 0) × (weightsFault n w ≡ 0)
-    passed = call-passes n (lentFault (length m) weightBytes) (weightsFault n w) (sym e ∙ z)
+    passed : (1 ≤ n) × (n ≤ maxWires) × (lentFault (length m) tableBytes ≡ 0) × (weightsFault n w ≡ 0)
+    passed = call-passes n (lentFault (length m) tableBytes) (weightsFault n w) (sym e ∙ z)
 
     pub odd-fits : length w ≡ length m
-    odd-fits = weights-sound weightBytes n w .0 (passed .3) .long ∙ sym (lent-pass (length m) weightBytes (passed .2))
+    odd-fits = weights-sound parities n w .0 (passed .3) .long ∙ sym (lent-pass (length m) tableBytes (passed .2))
 
     pub odd-done : (m′ : List ℕ) → m′ ≡ oddSet w → OddSetOf n w m m′ Done
     odd-done m′ p = record { reply = done f (oddSetFault n w (length m)) e z; marks-left = p }
@@ -60,22 +60,22 @@ module _ (n : ℕ) (w l q c : List ℕ) (f : ℕ) (e : f ≡ coefficientsFault n
       record { reply = refusal f (coefficientsFault n w (length l) (length q) (length c)) e h; l-left = refl; q-left = refl; c-left = refl }
 
   module _ (z : f ≡ 0) where
-    -- what each of the three writers asks
-    pub tables-fit : (length w ≤ weightBytes) × (length l ≡ maxWires) × (length q ≡ pairBytes) × (length c ≡ tripleBytes)
+    pub tables-fit : TablesFit w l q c
     tables-fit =
         let pairs : ℕ = orElse (lentFault (length q) pairBytes) (lentFault (length c) tripleBytes) in
         let a = call-passes n (tablesFault (length l) (length q) (length c)) (weightsFault n w) (sym e ∙ z) in
         let b = or-pass (lentFault (length l) maxWires) pairs (a .2) in
-        let d = or-pass (lentFault (length q) pairBytes) (lentFault (length c) tripleBytes) (b .1) in (
-          omega (arith, weights-sound weightBytes n w .0 (a .3) .long),
-          lent-pass (length l) maxWires (b .0),
-          lent-pass (length q) pairBytes (d .0),
-          lent-pass (length c) tripleBytes (d .1),
-        )
+        let d = or-pass (lentFault (length q) pairBytes) (lentFault (length c) tripleBytes) (b .1) in
+        record {
+          weights-fit = omega (arith, weights-sound parities n w .0 (a .3) .long);
+          l-fits = lent-pass (length l) maxWires (b .0);
+          q-fits = lent-pass (length q) pairBytes (d .0);
+          c-fits = lent-pass (length c) tripleBytes (d .1);
+        }
 
-    pub tables-done : (l′ q′ c′ : List ℕ) → l′ ≡ lTable maxWires n w → q′ ≡ qTable maxWires n w → c′ ≡ cTable maxWires n w → CoefficientsOf n w l q c l′ q′ c′ Done
-    tables-done l′ q′ c′ a b d =
-        record { reply = done f (coefficientsFault n w (length l) (length q) (length c)) e z; l-left = a; q-left = b; c-left = d }
+    pub tables-done : (l′ q′ c′ : List ℕ) → TablesOf n w l′ q′ c′ → CoefficientsOf n w l q c l′ q′ c′ Done
+    tables-done l′ q′ c′ t =
+        record { reply = done f (coefficientsFault n w (length l) (length q) (length c)) e z; l-left = t .l-is; q-left = t .q-is; c-left = t .c-is }
 
 -- ---- new_weights
 
@@ -84,15 +84,15 @@ module _ (n : ℕ) (w m out : List ℕ) (f : ℕ) (e : f ≡ newWeightsFault n w
   new-refused h = record { reply = refusal f (newWeightsFault n w m (length out)) e h; out-left = refl }
 
   module _ (z : f ≡ 0) where
-    pub new-fits : (n ≤ maxWires) × SoundWeights weightBytes n w × SoundMarks weightBytes n m × (length out ≡ weightBytes)
+    pub new-fits : (n ≤ maxWires) × SoundWeights parities n w × SoundMarks parities n m × (length out ≡ tableBytes)
     new-fits =
-        let a = call-passes n (lentFault (length out) weightBytes) (orElse (weightsFault n w) (marksFault n m)) (sym e ∙ z) in
+        let a = call-passes n (lentFault (length out) tableBytes) (orElse (weightsFault n w) (marksFault n m)) (sym e ∙ z) in
         let b = or-pass (weightsFault n w) (marksFault n m) (a .3) in (
           a .1,
-          weights-sound weightBytes n w .0 (b .0),
-          marks-sound weightBytes n m .0 (b .1),
-          lent-pass (length out) weightBytes (a .2),
+          weights-sound parities n w .0 (b .0),
+          marks-sound parities n m .0 (b .1),
+          lent-pass (length out) tableBytes (a .2),
         )
 
-    pub new-done : (out′ : List ℕ) → out′ ≡ newWeights weightBytes n w m → NewWeightsOf n w m out out′ Done
+    pub new-done : (out′ : List ℕ) → out′ ≡ newWeights parities n w m → NewWeightsOf n w m out out′ Done
     new-done out′ p = record { reply = done f (newWeightsFault n w m (length out)) e z; out-left = p }

@@ -5,7 +5,7 @@ use Prim.Native.Nat.{ℕ}
 use lib.ListN.{length}
 use Rattle.circuit.specs.Entry.{after}
 use Rattle.circuit.specs.Faults.{lentFault, orElse, refuse}
-use Rattle.circuit.specs.Limits.{maxWires, pairBytes, tripleBytes, weightBytes}
+use Rattle.circuit.specs.Limits.{maxWires, pairBytes, parities, tableBytes, tripleBytes}
 use Rattle.circuit.specs.OddSet.{oddSet}
 use Rattle.circuit.specs.declared.Reply.{Reply}
 use Rattle.circuit.specs.declared.Reply.the-variants.{Done}
@@ -21,7 +21,7 @@ replyOf fault = refuse fault 0 Done
 
 -- 1, 8, 6, by the weights and the length of the marks lent
 abbrev pub oddSetFault : ℕ → List ℕ → ℕ → ℕ
-oddSetFault n w marks = callFault n (lentFault marks weightBytes) (weightsFault n w)
+oddSetFault n w marks = callFault n (lentFault marks tableBytes) (weightsFault n w)
 
 -- `odd_set`, called with these weights and marks, replies r and leaves marks′
 pub record OddSetOf (n : ℕ) (weights marks marks′ : List ℕ) (r : Reply) : Type 0 where
@@ -49,9 +49,9 @@ pub record CoefficientsOf (n : ℕ) (weights l q c l′ q′ c′ : List ℕ) (r
 
 -- 1, 8, 6, by the weights, the marks and the length of the output lent
 abbrev pub newWeightsFault : ℕ → List ℕ → List ℕ → ℕ → ℕ
-newWeightsFault n w marks out = callFault n (lentFault out weightBytes) (orElse (weightsFault n w) (marksFault n marks))
+newWeightsFault n w marks out = callFault n (lentFault out tableBytes) (orElse (weightsFault n w) (marksFault n marks))
 
 -- `new_weights`, called with these weights, marks and output, replies r and leaves out′
 pub record NewWeightsOf (n : ℕ) (weights marks out out′ : List ℕ) (r : Reply) : Type 0 where
   pub reply : r ≡ replyOf (newWeightsFault n weights marks (length out))
-  pub out-left : out′ ≡ after r (newWeights weightBytes n weights marks) out
+  pub out-left : out′ ≡ after r (newWeights parities n weights marks) out

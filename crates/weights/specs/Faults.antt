@@ -4,7 +4,7 @@ use Prim.Native.Nat.{_^_, suc, ℕ}
 use lib.Dec.{eqb, leb, ltb}
 use lib.ListN.{length}
 use Rattle.circuit.specs.Faults.{orElse, wiresFault}
-use Rattle.circuit.specs.Limits.{maxMark, maxWeight, weightBytes}
+use Rattle.circuit.specs.Limits.{maxMark, maxWeight, tableBytes}
 use Rattle.circuit.specs.Read.{either}
 
 -- weights or odd set of another length than theirs, or a byte against its rule
@@ -29,10 +29,10 @@ unfoldable pub tableFault : ℕ → ℕ → ℕ → List ℕ → ℕ
 tableFault size n most table = either (eqb (length table) size) (bytesFault n most 0 table) tableRule
 
 abbrev pub weightsFault : ℕ → List ℕ → ℕ
-weightsFault n w = tableFault weightBytes n maxWeight w
+weightsFault n w = tableFault tableBytes n maxWeight w
 
 abbrev pub marksFault : ℕ → List ℕ → ℕ
-marksFault n marks = tableFault weightBytes n maxMark marks
+marksFault n marks = tableFault tableBytes n maxMark marks
 
 -- the first fault of a call: 1, then 8 of what it lends for an output, then 6 of the weights or marks that it brings
 abbrev pub callFault : ℕ → ℕ → ℕ → ℕ

@@ -1,7 +1,10 @@
 -- The coefficients of weights as tables, for wires i < j < k below n; N is the most wires that a table has room for.
 use mathlib.Core.List.{List}
-use Prim.Native.Nat.{_%_, _*_, _/_, ℕ}
+use mathlib.Core.Path.{_≡_}
+use Prim.Native.Nat.{_%_, _*_, _/_, _≤_, ℕ}
 use lib.Dec.{ltb}
+use lib.ListN.{length}
+use Rattle.circuit.specs.Limits.{maxWires, pairBytes, parities, tripleBytes}
 use Rattle.circuit.specs.Read.{either}
 use Rattle.gf2.specs.Table.{tabulate}
 use Rattle.phase.specs.Coefficients.{c, l, q}
@@ -29,3 +32,16 @@ qTable N n w = tabulate (N * N) (λ p. qEntry n w (p % N) (p / N))
 -- c(i, j, k) stands at N N k + N j + i
 unfoldable pub cTable : ℕ → ℕ → List ℕ → List ℕ
 cTable N n w = tabulate (N * (N * N)) (λ p. cEntry n w (p % N) (p / N % N) (p / (N * N)))
+
+-- weights and lent tables that the writers take
+pub record TablesFit (weights l q c : List ℕ) : Type 0 where
+  pub weights-fit : length weights ≤ parities
+  pub l-fits : length l ≡ maxWires
+  pub q-fits : length q ≡ pairBytes
+  pub c-fits : length c ≡ tripleBytes
+
+-- the tables of the coefficients of these weights
+pub record TablesOf (n : ℕ) (weights l q c : List ℕ) : Type 0 where
+  pub l-is : l ≡ lTable maxWires n weights
+  pub q-is : q ≡ qTable maxWires n weights
+  pub c-is : c ≡ cTable maxWires n weights

@@ -12,22 +12,19 @@ pub mod tables;
 
 use circuit::Reply;
 use circuit::faults::lent_fault;
-use circuit::faults::or_else;
-use circuit::limits::WEIGHT_BYTES;
+use circuit::limits::TABLE_BYTES;
 use faults::call_fault;
-use faults::marks_fault;
-use faults::tables_fault;
+use faults::coefficients_fault;
+use faults::new_weights_fault;
 use faults::weights_fault;
 use rests::put_new_weights;
-use tables::put_c;
-use tables::put_l;
-use tables::put_q;
+use tables::put_tables;
 
 // The odd set of weights. A refusal leaves the marks as they were.
 pub fn odd_set(n: usize, weights: &[u8], marks: &mut [u8]) -> Reply
     ensures { λ r. ⌜ OddSetOf n (now (weights .entry)) (now (marks .entry)) (now (marks .exit)) r ⌝ }
 {
-    let lent = lent_fault(marks.len(), WEIGHT_BYTES);
+    let lent = lent_fault(marks.len(), TABLE_BYTES);
     let fault = call_fault(n, lent, weights_fault(n, weights));
     if fault != 0 {
         return Reply::Refused {
@@ -44,17 +41,14 @@ pub fn odd_set(n: usize, weights: &[u8], marks: &mut [u8]) -> Reply
 pub fn coefficients(n: usize, weights: &[u8], l: &mut [u8], q: &mut [u8], c: &mut [u8]) -> Reply
     ensures { λ r. ⌜ CoefficientsOf n (now (weights .entry)) (now (l .entry)) (now (q .entry)) (now (c .entry)) (now (l .exit)) (now (q .exit)) (now (c .exit)) r ⌝ }
 {
-    let lent = tables_fault(l.len(), q.len(), c.len());
-    let fault = call_fault(n, lent, weights_fault(n, weights));
+    let fault = coefficients_fault(n, weights, l.len(), q.len(), c.len());
     if fault != 0 {
         return Reply::Refused {
             number: fault,
             place: 0,
         };
     }
-    put_l(n, weights, l);
-    put_q(n, weights, q);
-    put_c(n, weights, c);
+    put_tables(n, weights, l, q, c);
     Reply::Done
 }
 
@@ -62,9 +56,7 @@ pub fn coefficients(n: usize, weights: &[u8], l: &mut [u8], q: &mut [u8], c: &mu
 pub fn new_weights(n: usize, weights: &[u8], marks: &[u8], out: &mut [u8]) -> Reply
     ensures { λ r. ⌜ NewWeightsOf n (now (weights .entry)) (now (marks .entry)) (now (out .entry)) (now (out .exit)) r ⌝ }
 {
-    let lent = lent_fault(out.len(), WEIGHT_BYTES);
-    let tables = or_else(weights_fault(n, weights), marks_fault(n, marks));
-    let fault = call_fault(n, lent, tables);
+    let fault = new_weights_fault(n, weights, marks, out.len());
     if fault != 0 {
         return Reply::Refused {
             number: fault,

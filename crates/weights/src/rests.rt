@@ -5,7 +5,7 @@ ghost use Prim.Native.Nat.{_+_, _*_, _<_, _≤_, _-_, _^_};
 ghost use lib.ListN.{length};
 ghost use Rattle.gf2.specs.Over.{Below};
 ghost use Rattle.gf2.specs.Sum.{sum};
-ghost use Rattle.circuit.specs.Limits.{maxWires, pairBytes, weightBytes};
+ghost use Rattle.circuit.specs.Limits.{maxWires, pairBytes, parities, tableBytes};
 ghost use Rattle.circuit.specs.Sound.{SoundMarks, SoundWeights};
 ghost use Rattle.phase.specs.NewWeights.{apart, newWeights};
 ghost use Rattle.weights.specs.Rests.{difference, mostRest, newIn, oneIn, oneRests, pairIn, restIn, weightIn, weightsIn};
@@ -13,16 +13,17 @@ use crate::tables::l_entry;
 use crate::tables::put_q;
 use circuit::limits::MAX_WIRES;
 use circuit::limits::PAIR_BYTES;
+use circuit::limits::PARITIES;
 use circuit::limits::Parity;
-use circuit::limits::WEIGHT_BYTES;
+use circuit::limits::TABLE_BYTES;
 use circuit::parity::lowest;
 
 // Internal: the caller has found no fault. From 2^n up the difference is 0, so that the sums go over the parities of n wires alone.
 pub fn put_new_weights(n: usize, w: &[u8], u: &[u8], out: &mut [u8])
-    requires { ⌜ (n ≤ maxWires) × SoundWeights weightBytes n (now w) × SoundMarks weightBytes n (now u) × (length (now out) ≡ weightBytes) ⌝ }
-    ensures { λ _. ⌜ now (out .exit) ≡ newWeights weightBytes n (now (w .entry)) (now (u .entry)) ⌝ }
+    requires { ⌜ (n ≤ maxWires) × SoundWeights parities n (now w) × SoundMarks parities n (now u) × (length (now out) ≡ tableBytes) ⌝ }
+    ensures { λ _. ⌜ now (out .exit) ≡ newWeights parities n (now (w .entry)) (now (u .entry)) ⌝ }
 {
-    let mut d = [0u8; WEIGHT_BYTES];
+    let mut d = [0u8; TABLE_BYTES];
     put_difference(w, u, &mut d);
     put_by_difference(n, &d[..1 << n], u, out);
 }
@@ -40,8 +41,8 @@ fn put_difference(w: &[u8], u: &[u8], out: &mut [u8])
 }
 
 fn put_by_difference(n: usize, d: &[u8], u: &[u8], out: &mut [u8])
-    requires { ⌜ (n ≤ maxWires) × (length (now d) ≤ weightBytes) × (length (now u) ≡ weightBytes) × (length (now out) ≡ weightBytes) ⌝ }
-    ensures { λ _. ⌜ now (out .exit) ≡ newIn weightBytes maxWires n (now (d .entry)) (now (u .entry)) ⌝ }
+    requires { ⌜ (n ≤ maxWires) × (length (now d) ≤ parities) × (length (now u) ≡ tableBytes) × (length (now out) ≡ tableBytes) ⌝ }
+    ensures { λ _. ⌜ now (out .exit) ≡ newIn parities maxWires n (now (d .entry)) (now (u .entry)) ⌝ }
 {
     let mut q = [0u8; PAIR_BYTES];
     put_q(n, d, &mut q);
@@ -51,7 +52,7 @@ fn put_by_difference(n: usize, d: &[u8], u: &[u8], out: &mut [u8])
 }
 
 fn put_one_rests(n: usize, d: &[u8], q: &[u8], out: &mut [u8])
-    requires { ⌜ (n ≤ maxWires) × (length (now d) ≤ weightBytes) × (length (now q) ≡ pairBytes) × (length (now out) ≡ maxWires) ⌝ }
+    requires { ⌜ (n ≤ maxWires) × (length (now d) ≤ parities) × (length (now q) ≡ pairBytes) × (length (now out) ≡ maxWires) ⌝ }
     ensures { λ _. ⌜ now (out .exit) ≡ oneRests maxWires n (now (d .entry)) (now (q .entry)) ⌝ }
 {
     for i in 0..MAX_WIRES {
@@ -61,7 +62,7 @@ fn put_one_rests(n: usize, d: &[u8], q: &[u8], out: &mut [u8])
 
 // What is left of l when the rests of the pairs with i are taken away.
 fn one_rest(n: usize, d: &[u8], q: &[u8], i: usize) -> u8
-    requires { ⌜ (n ≤ maxWires) × (length (now d) ≤ weightBytes) × (length (now q) ≡ pairBytes) × (i < maxWires) ⌝ }
+    requires { ⌜ (n ≤ maxWires) × (length (now d) ≤ parities) × (length (now q) ≡ pairBytes) × (i < maxWires) ⌝ }
     ensures { λ r. ⌜ r ≡ oneIn maxWires n (now (d .entry)) (now (q .entry)) i ⌝ }
 {
     let s = pairs_with(n, q, i);
@@ -108,17 +109,17 @@ fn wide(x: u8) -> u32
 }
 
 fn put_weights(n: usize, one: &[u8], q: &[u8], u: &[u8], out: &mut [u8])
-    requires { ⌜ (n ≤ maxWires) × (length (now one) ≡ maxWires) × (length (now q) ≡ pairBytes) × (length (now u) ≡ weightBytes) × (length (now out) ≡ weightBytes) ⌝ }
-    ensures { λ _. ⌜ now (out .exit) ≡ weightsIn weightBytes maxWires n (now (one .entry)) (now (q .entry)) (now (u .entry)) ⌝ }
+    requires { ⌜ (n ≤ maxWires) × (length (now one) ≡ maxWires) × (length (now q) ≡ pairBytes) × (length (now u) ≡ tableBytes) × (length (now out) ≡ tableBytes) ⌝ }
+    ensures { λ _. ⌜ now (out .exit) ≡ weightsIn parities maxWires n (now (one .entry)) (now (q .entry)) (now (u .entry)) ⌝ }
 {
-    for p in 0..WEIGHT_BYTES {
+    for p in 0..PARITIES {
         out[p] = new_weight(n, one, q, u[p], p);
     }
 }
 
 // A member's 1, with the rest added; 0 from 2^n up.
 fn new_weight(n: usize, one: &[u8], q: &[u8], mark: u8, p: usize) -> u8
-    requires { ⌜ (n ≤ maxWires) × (length (now one) ≡ maxWires) × (length (now q) ≡ pairBytes) × (p < weightBytes) ⌝ }
+    requires { ⌜ (n ≤ maxWires) × (length (now one) ≡ maxWires) × (length (now q) ≡ pairBytes) × (p < parities) ⌝ }
     ensures { λ r. ⌜ r ≡ weightIn maxWires n (now (one .entry)) (now (q .entry)) mark p ⌝ }
 {
     if p >= 1 << n {

@@ -4,14 +4,14 @@ ghost use Prim.Native.Nat.{_*_, _<_, _≤_};
 ghost use lib.IntN.{pos};
 ghost use lib.ListN.{length};
 ghost use Rattle.gf2.specs.Bit.{bit};
-ghost use Rattle.circuit.specs.Limits.{maxWires, weightBytes};
+ghost use Rattle.circuit.specs.Limits.{maxWires, parities};
 ghost use Rattle.phase.specs.Coefficients.{c, l, q};
 ghost use Rattle.weights.specs.Sums.{sumWith, quarterOf};
 use circuit::limits::Parity;
 
 // The sum of the weights of parities with i, modulo 8.
 pub fn l_of(w: &[u8], i: usize) -> u8
-    requires { ⌜ (length (now w) ≤ weightBytes) × (i < maxWires) ⌝ }
+    requires { ⌜ (length (now w) ≤ parities) × (i < maxWires) ⌝ }
     ensures { λ r. ⌜ (r ≡ l (now (w .entry)) i) × (r < 8) ⌝ }
 {
     (sum_with(w, i, i, i) % 8) as u8
@@ -19,7 +19,7 @@ pub fn l_of(w: &[u8], i: usize) -> u8
 
 // Minus the sum of the weights of parities with i and j, brought back to 0..3.
 pub fn q_of(w: &[u8], i: usize, j: usize) -> u8
-    requires { ⌜ (length (now w) ≤ weightBytes) × (i < maxWires) × (j < maxWires) ⌝ }
+    requires { ⌜ (length (now w) ≤ parities) × (i < maxWires) × (j < maxWires) ⌝ }
     ensures { λ r. ⌜ (r ≡ q (now (w .entry)) i j) × (r < 4) ⌝ }
 {
     let s = sum_with(w, i, j, j);
@@ -35,7 +35,7 @@ fn quarters(t: i32) -> u8
 
 // The sum of the weights of parities with all three, modulo 2.
 pub fn c_of(w: &[u8], i: usize, j: usize, k: usize) -> u8
-    requires { ⌜ (length (now w) ≤ weightBytes) × (i < maxWires) × (j < maxWires) × (k < maxWires) ⌝ }
+    requires { ⌜ (length (now w) ≤ parities) × (i < maxWires) × (j < maxWires) × (k < maxWires) ⌝ }
     ensures { λ r. ⌜ r ≡ c (now (w .entry)) i j k ⌝ }
 {
     (sum_with(w, i, j, k) % 2) as u8
@@ -43,8 +43,8 @@ pub fn c_of(w: &[u8], i: usize, j: usize, k: usize) -> u8
 
 // The sum of the weights of parities with i, j and k, which need not differ.
 fn sum_with(w: &[u8], i: usize, j: usize, k: usize) -> i32
-    requires { ⌜ (length (now w) ≤ weightBytes) × (i < maxWires) × (j < maxWires) × (k < maxWires) ⌝ }
-    ensures { λ r. ⌜ (r ≡ pos (sumWith (now (w .entry)) i j k)) × (sumWith (now (w .entry)) i j k ≤ 255 * weightBytes) ⌝ }
+    requires { ⌜ (length (now w) ≤ parities) × (i < maxWires) × (j < maxWires) × (k < maxWires) ⌝ }
+    ensures { λ r. ⌜ (r ≡ pos (sumWith (now (w .entry)) i j k)) × (sumWith (now (w .entry)) i j k ≤ 255 * parities) ⌝ }
 {
     let mut s: i32 = 0;
     let mut p: usize = 0;

@@ -19,28 +19,38 @@ enum-known-counts c = search needs
 
 mul-list : tie.Need-mul-list
 mul-list c =
-    let t = c .before .before .before .before .before .before in
-    let p = t .before .before .before .before .before .pre in
+    let after-trim : tie.After-trim = search in
+    let start : tie.Start = search in
+    let t = after-trim in
+    let p = start .pre in
     let h = gates-within _ _ _ _ (p .1) (omega arith) (omega arith) _ _ (t .trim .result) (t .trim .ensures) _ (c .before .before .counts .given .1) in
     record { fits = omega (arith, h) }
 
 array-share-prefix-list : tie.Need-array-share-prefix-list
 array-share-prefix-list c =
-    let t = c .before .before .before .before .before .before in
-    let p = t .before .before .before .before .before .pre in
+    let after-trim : tie.After-trim = search in
+    let start : tie.Start = search in
+    let t = after-trim in
+    let p = start .pre in
     gates-left _ _ _ _ (p .1) (omega arith) (omega arith) _ _ (t .trim .result) (t .trim .ensures) _ (c .before .before .counts .given .1)
 
 slice-aggregate-put-trimmed : tie.Need-slice-aggregate-put-trimmed
 slice-aggregate-put-trimmed c =
-    let t = c .before .before .before .before .before .before .before in
-    let p = t .before .before .before .before .before .pre in
-    counted _ _ _ _ (p .1) (omega arith) (omega arith) _ _ (t .trim .result) (t .trim .ensures) _ (c .before .before .before .counts .given .1)
+    let after-counts : tie.After-counts = search in
+    let after-trim : tie.After-trim = search in
+    let start : tie.Start = search in
+    let t = after-trim in
+    let p = start .pre in
+    counted _ _ _ _ (p .1) (omega arith) (omega arith) _ _ (t .trim .result) (t .trim .ensures) _ (after-counts .counts .given .1)
 
 put-trimmed-requires : tie.Need-put-trimmed-requires
 put-trimmed-requires c κs =
-    let t = c .before .before .before .before .before .before .before .before in
-    let p = t .before .before .before .before .before .pre in
-    let k = c .before .before .before .before .counts .given in
+    let after-counts : tie.After-counts = search in
+    let after-trim : tie.After-trim = search in
+    let start : tie.Start = search in
+    let t = after-trim in
+    let p = start .pre in
+    let k = after-counts .counts .given in
     let h = counted _ _ _ _ (p .1) (omega arith) (omega arith) _ _ (t .trim .result) (t .trim .ensures) _ (k .1) in
     let w = gates-within _ _ _ _ (p .1) (omega arith) (omega arith) _ _ (t .trim .result) (t .trim .ensures) _ (k .1) in
     omega (arith, h, w, p .0)
@@ -56,9 +66,12 @@ same-length c = search needs
 
 returns : tie.Need-returns
 returns c =
-    let t = c .before .before .before .before .before .before .before .before .before .before .before in
-    let p = t .before .before .before .before .before .pre in
-    trim-printed _ _ _ _ (p .1) (omega arith) (omega arith) _ _ (t .trim .result) (t .trim .ensures) _ (c .before .before .before .before .before .before .before .counts .given .1) _ _ _
+    let after-counts : tie.After-counts = search in
+    let after-trim : tie.After-trim = search in
+    let start : tie.Start = search in
+    let t = after-trim in
+    let p = start .pre in
+    trim-printed _ _ _ _ (p .1) (omega arith) (omega arith) _ _ (t .trim .result) (t .trim .ensures) _ (after-counts .counts .given .1) _ _ _
     (c .before .before .put-trimmed .ensures)
 
 same-length-2 : tie.Need-same-length-2
@@ -66,9 +79,12 @@ same-length-2 c = search needs
 
 returns-2 : tie.Need-returns-2
 returns-2 c =
-    let t = c .before .before .before .before .before .before .before .before .before in
-    let p = t .before .before .before .before .before .pre in
-    gate-printed _ _ _ _ (p .1) (omega arith) (omega arith) _ _ (t .trim .result) (t .trim .ensures) _ _ (c .before .before .before .before .before .number .given .1) _ _ _
+    let after-number : tie.After-number = search in
+    let after-trim : tie.After-trim = search in
+    let start : tie.Start = search in
+    let t = after-trim in
+    let p = start .pre in
+    gate-printed _ _ _ _ (p .1) (omega arith) (omega arith) _ _ (t .trim .result) (t .trim .ensures) _ _ (after-number .number .given .1) _ _ _
     (c .before .before .put-refused .ensures)
 
 pub put-circuit-spec : {M : Type 1} → statement M

@@ -23,10 +23,13 @@ same-length c = search needs
 
 returns : tie.Need-returns
 returns c =
+    let after-put-counts : tie.After-put-counts = search in
+    let after-put-wires : tie.After-put-wires = search in
+    let start : tie.Start = search in
     let g = c .before .before in
-    let k = g .before .before .before .before in
-    let w = k .before .before .before .before in
-    let gates = now (w .before .before .before .before .args .gates) in
+    let k = after-put-counts in
+    let w = after-put-wires in
+    let gates = now (start .args .gates) in
     writes-then (writes-then (w .put-wires .ensures) (k .put-counts .ensures) (omega arith)) (g .put-gates .ensures)
     (omega (arith, gate-lines-long (gatesOf gates), gates-in gates))
 

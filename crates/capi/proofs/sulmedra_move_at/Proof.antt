@@ -8,7 +8,7 @@ use borrow.Author.Needs.{needs}
 use borrow.Author.Tests.{le-leb, lt-leb}
 use denote.Ref.{now}
 use Rattle.carry.proofs.Laws.{part-short, part-whole}
-use Rattle.circuit.specs.Limits.{moveBytes}
+use Rattle.circuit.specs.Limits.{moveCells}
 use Rattle.capi.proofs.sulmedra_move_at.Statement.{statement}
 use Rattle.capi.proofs.sulmedra_move_at.Tie as tie
 
@@ -21,8 +21,8 @@ returns c =
     let log = now (a .log) in
     let whole = part-whole log (a .k) (omega arith) in
     record {
-      starts = simp (le-leb (moveBytes * a .k + moveBytes) (length log) (omega arith));
-      lasts = sym (ap length whole ∙ length-take-le moveBytes (drop (moveBytes * a .k) log) (omega (arith, length-drop (moveBytes * a .k) log)));
+      starts = simp (le-leb (moveCells * a .k + moveCells) (length log) (omega arith));
+      lasts = sym (ap length whole ∙ length-take-le moveCells (drop (moveCells * a .k) log) (omega (arith, length-drop (moveCells * a .k) log)));
       is = sym whole;
     }
 
@@ -31,7 +31,7 @@ returns-2 c =
     let a = c .before .args in
     let log = now (a .log) in
     let short = part-short log (a .k) (omega arith) in
-    record { starts = simp (lt-leb (moveBytes * a .k + moveBytes) (length log) (omega arith)); lasts = sym (ap length short); is = sym short }
+    record { starts = simp (lt-leb (moveCells * a .k + moveCells) (length log) (omega arith)); lasts = sym (ap length short); is = sym short }
 
 pub sulmedra-move-at-spec : {M : Type 1} → statement M
 sulmedra-move-at-spec = tie.close (tie.spec mul-t7 returns returns-2)

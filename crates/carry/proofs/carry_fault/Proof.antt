@@ -16,7 +16,8 @@ call-fault-requires c κs = search needs
 
 returns : tie.Need-returns
 returns c =
-    let a = c .before .before .before .before .args in
+    let start : tie.Start = search in
+    let a = start .args in
     c .call-fault .ensures ∙ ap₂ (callFault (a .n)) (c .before .before .lent-fault .ensures) (c .before .marks-fault .ensures)
 
 pub carry-fault-spec : {M : Type 1} → statement M

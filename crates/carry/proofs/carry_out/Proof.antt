@@ -14,57 +14,74 @@ same-length c = search needs
 
 returns : tie.Need-returns
 returns c =
+    let start : tie.Start = search in
     let f = c .before in
-    let a = f .before .before .before .before .args in
-    call-refused (a .n) (now (a .marks)) (now (a .bytes)) (f .carry-fault .result) (f .carry-fault .ensures) (c .if1 .taken)
+    let a = start .args in
+    call-refused (a .n) (now (a .marks)) (now (a .cells)) (f .carry-fault .result) (f .carry-fault .ensures) (c .if1 .taken)
 
 is-move-requires : tie.Need-is-move-requires
 is-move-requires c κs =
+    let start : tie.Start = search in
     let f = c .before .before in
-    let a = f .before .before .before .before .args in
-    marks-long (a .n) (now (a .marks)) (now (a .bytes)) (f .carry-fault .result) (f .carry-fault .ensures) (omega arith)
+    let a = start .args in
+    marks-long (a .n) (now (a .marks)) (now (a .cells)) (f .carry-fault .result) (f .carry-fault .ensures) (omega arith)
 
 same-length-2 : tie.Need-same-length-2
 same-length-2 c = search needs
 
 returns-2 : tie.Need-returns-2
 returns-2 c =
+    let after-carry-fault : tie.After-carry-fault = search in
+    let start : tie.Start = search in
     let m = c .before in
-    let f = m .before .before .before in
-    let a = f .before .before .before .before .args in
-    move-refused (a .n) (now (a .marks)) (now (a .bytes)) (f .carry-fault .result) (f .carry-fault .ensures) (omega arith) (m .is-move .result) (m .is-move .ensures) (c .if2 .taken)
+    let f = after-carry-fault in
+    let a = start .args in
+    move-refused (a .n) (now (a .marks)) (now (a .cells)) (f .carry-fault .result) (f .carry-fault .ensures) (omega arith) (m .is-move .result) (m .is-move .ensures) (c .if2 .taken)
 
 shared-slice-read-carry : tie.Need-shared-slice-read-carry
 shared-slice-read-carry c =
-    let m = c .before .before .before in
-    let f = m .before .before .before in
-    let a = f .before .before .before .before .args in
-    omega (arith, move-form (a .n) (now (a .marks)) (now (a .bytes)) (f .carry-fault .result) (f .carry-fault .ensures) (omega arith) (m .is-move .result) (m .is-move .ensures) (c .before .before .if2 .left) .long)
+    let after-is-move : tie.After-is-move = search in
+    let after-carry-fault : tie.After-carry-fault = search in
+    let start : tie.Start = search in
+    let m = after-is-move in
+    let f = after-carry-fault in
+    let a = start .args in
+    omega (arith, move-form (a .n) (now (a .marks)) (now (a .cells)) (f .carry-fault .result) (f .carry-fault .ensures) (omega arith) (m .is-move .result) (m .is-move .ensures) (c .before .before .if2 .left) .long)
 
 set-of-requires : tie.Need-set-of-requires
 set-of-requires c κs =
-    let m = c .before .before .before in
-    let f = m .before .before .before in
-    let a = f .before .before .before .before .args in
-    move-form (a .n) (now (a .marks)) (now (a .bytes)) (f .carry-fault .result) (f .carry-fault .ensures) (omega arith) (m .is-move .result) (m .is-move .ensures) (c .before .before .if2 .left)
+    let after-is-move : tie.After-is-move = search in
+    let after-carry-fault : tie.After-carry-fault = search in
+    let start : tie.Start = search in
+    let m = after-is-move in
+    let f = after-carry-fault in
+    let a = start .args in
+    move-form (a .n) (now (a .marks)) (now (a .cells)) (f .carry-fault .result) (f .carry-fault .ensures) (omega arith) (m .is-move .result) (m .is-move .ensures) (c .before .before .if2 .left)
 
 carry-requires : tie.Need-carry-requires
 carry-requires c κs =
-    let f = c .before .before .before .before .before .before .before in
-    let a = f .before .before .before .before .args in
-    marks-long (a .n) (now (a .marks)) (now (a .bytes)) (f .carry-fault .result) (f .carry-fault .ensures) (omega arith)
+    let after-carry-fault : tie.After-carry-fault = search in
+    let start : tie.Start = search in
+    let f = after-carry-fault in
+    let a = start .args in
+    marks-long (a .n) (now (a .marks)) (now (a .cells)) (f .carry-fault .result) (f .carry-fault .ensures) (omega arith)
 
 same-length-3 : tie.Need-same-length-3
 same-length-3 c = c .before .before .carry .kept .0
 
 returns-3 : tie.Need-returns-3
 returns-3 c =
-    let m = c .before .before .before .before .before .before .before in
-    let f = m .before .before .before in
-    let a = f .before .before .before .before .args in
-    let y = c .before .before .before .set-of in
-    carried-out (a .n) (now (a .marks)) (now (a .bytes)) (f .carry-fault .result) (f .carry-fault .ensures) (omega arith) (m .is-move .result)
-    (m .is-move .ensures) (c .before .before .before .before .before .before .if2 .left)
+    let after-set-of : tie.After-set-of = search in
+    let else2 : tie.Else2 = search in
+    let after-is-move : tie.After-is-move = search in
+    let after-carry-fault : tie.After-carry-fault = search in
+    let start : tie.Start = search in
+    let m = after-is-move in
+    let f = after-carry-fault in
+    let a = start .args in
+    let y = after-set-of .set-of in
+    carried-out (a .n) (now (a .marks)) (now (a .cells)) (f .carry-fault .result) (f .carry-fault .ensures) (omega arith) (m .is-move .result)
+    (m .is-move .ensures) (else2 .if2 .left)
     (now (y .result)) (c .before .before .carry .last .0) (y .ensures) (c .before .before .carry .ensures)
 
 pub carry-out-spec : {M : Type 1} → statement M

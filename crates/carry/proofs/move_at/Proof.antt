@@ -1,11 +1,11 @@
--- The test is that the log has the bytes of move k.
+-- The test is that the log has the cells of move k.
 use mathlib.Core.Path.{ap, sym, _∙_, _≡_}
 use Prim.Native.Nat.{_*_, _+_, _-_, ℕ}
 use native.Mathlib.Omega.{arith}
 use lib.ListN.{drop, take}
 use borrow.Author.Needs.{needs}
 use denote.Ref.{now}
-use Rattle.circuit.specs.Limits.{moveBytes}
+use Rattle.circuit.specs.Limits.{moveCells}
 use Rattle.moves.proofs.Logs.{move-short, move-whole}
 use Rattle.carry.proofs.move_at.Statement.{statement}
 use Rattle.carry.proofs.move_at.Tie as tie
@@ -40,13 +40,13 @@ part-result-end-2 c = search needs
 returns : tie.Need-returns
 returns c =
     let a = c .before .before .args in
-    let e : moveBytes * a .k + moveBytes - moveBytes * a .k ≡ moveBytes = omega arith in
-    ap (λ (x : ℕ). take x (drop (moveBytes * a .k) (now (a .log)))) e ∙ sym (move-whole moveBytes (now (a .log)) (a .k) (omega arith))
+    let e : moveCells * a .k + moveCells - moveCells * a .k ≡ moveCells = omega arith in
+    ap (λ (x : ℕ). take x (drop (moveCells * a .k) (now (a .log)))) e ∙ sym (move-whole moveCells (now (a .log)) (a .k) (omega arith))
 
 returns-2 : tie.Need-returns-2
 returns-2 c =
     let a = c .before .before .args in
-    sym (move-short moveBytes (now (a .log)) (a .k) (omega arith))
+    sym (move-short moveCells (now (a .log)) (a .k) (omega arith))
 
 pub move-at-spec : {M : Type 1} → statement M
 move-at-spec =

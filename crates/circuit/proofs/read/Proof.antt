@@ -11,7 +11,8 @@ read-fault-requires c κs = search needs
 
 returns : tie.Need-returns
 returns c =
-    let a = c .before .before .before .before .before .args in
+    let start : tie.Start = search in
+    let a = start .args in
     let f = c .before .read-fault in
     call-refused (a .n) (now (a .gates)) (now (a .weights)) (now (a .rows)) (f .result) (f .ensures) (omega arith)
 
@@ -23,9 +24,12 @@ enum-known-found c = search needs
 
 returns-2 : tie.Need-returns-2
 returns-2 c =
-    let a = c .before .before .before .before .before .before .before .before .before .args in
-    let f = c .before .before .before .before .before .read-fault in
-    let k = c .before .before .before .first-fault in
+    let after-first-fault : tie.After-first-fault = search in
+    let after-read-fault : tie.After-read-fault = search in
+    let start : tie.Start = search in
+    let a = start .args in
+    let f = after-read-fault .read-fault in
+    let k = after-first-fault .first-fault in
     gate-refused (a .n) (now (a .gates)) (now (a .weights)) (now (a .rows)) (f .result) (f .ensures) (omega arith) (k .result) (k .ensures)
     (c .before .found .given .0 .0) (c .before .found .given .0 .1 .0) (c .before .found .given .1)
 
@@ -34,8 +38,10 @@ enum-told c = search needs
 
 read-gates-requires : tie.Need-read-gates-requires
 read-gates-requires c κs =
-    let a = c .before .before .before .before .before .before .before .before .args in
-    let f = c .before .before .before .before .read-fault in
+    let after-read-fault : tie.After-read-fault = search in
+    let start : tie.Start = search in
+    let a = start .args in
+    let f = after-read-fault .read-fault in
     let k = c .before .before .first-fault in
     may-read (a .n) (now (a .gates)) (now (a .weights)) (now (a .rows)) (f .result) (f .ensures) (omega arith) (k .result) (k .ensures) (c .enum-told .given .1)
 
@@ -44,10 +50,13 @@ slice-aggregate-copy-into c = search needs
 
 copy-into-requires : tie.Need-copy-into-requires
 copy-into-requires c κs =
-    let t = c .before .before .before .before in
-    let k = t .before .before .before in
+    let after-read-gates : tie.After-read-gates = search in
+    let after-first-fault : tie.After-first-fault = search in
+    let start : tie.Start = search in
+    let t = after-read-gates in
+    let k = after-first-fault in
     let f = k .before .before in
-    let a = f .before .before .before .before .args in
+    let a = start .args in
     let r = t .read-gates in
     weights-fit (a .n) (now (a .gates)) (now (a .weights)) (now (a .rows)) (f .read-fault .result) (f .read-fault .ensures) (omega arith)
     (k .first-fault .result) (k .first-fault .ensures) (t .before .enum-told .given .1) (r .result .weights) (r .result .rows) (r .ensures)
@@ -57,10 +66,13 @@ slice-aggregate-copy-into-2 c = search needs
 
 copy-into-requires-2 : tie.Need-copy-into-requires-2
 copy-into-requires-2 c κs =
-    let t = c .before .before .before .before .before .before .before .before .before in
-    let k = t .before .before .before in
+    let after-read-gates : tie.After-read-gates = search in
+    let after-first-fault : tie.After-first-fault = search in
+    let start : tie.Start = search in
+    let t = after-read-gates in
+    let k = after-first-fault in
     let f = k .before .before in
-    let a = f .before .before .before .before .args in
+    let a = start .args in
     let r = t .read-gates in
     rows-fit (a .n) (now (a .gates)) (now (a .weights)) (now (a .rows)) (f .read-fault .result) (f .read-fault .ensures) (omega (arith, k .before .if1 .left))
     (k .first-fault .result) (k .first-fault .ensures) (t .before .enum-told .given .1) (r .result .weights) (r .result .rows) (r .ensures)
@@ -73,14 +85,18 @@ same-length-2 c = search needs
 
 returns-3 : tie.Need-returns-3
 returns-3 c =
-    let t = c .before .before .before .before .before .before .before .before .before .before .before .before in
-    let k = t .before .before .before in
+    let after-copy-into : tie.After-copy-into = search in
+    let after-read-gates : tie.After-read-gates = search in
+    let after-first-fault : tie.After-first-fault = search in
+    let start : tie.Start = search in
+    let t = after-read-gates in
+    let k = after-first-fault in
     let f = k .before .before in
-    let a = f .before .before .before .before .args in
+    let a = start .args in
     let r = t .read-gates in
     read-done (a .n) (now (a .gates)) (now (a .weights)) (now (a .rows)) (f .read-fault .result) (f .read-fault .ensures) (omega (arith, k .before .if1 .left))
     (k .first-fault .result) (k .first-fault .ensures) (t .before .enum-told .given .1) (r .result .weights) (r .result .rows) (r .ensures) _ _
-    (c .before .before .before .before .before .before .before .copy-into .ensures) (c .before .before .copy-into2 .ensures)
+    (after-copy-into .copy-into .ensures) (c .before .before .copy-into2 .ensures)
 
 pub read-spec : {M : Type 1} → statement M
 read-spec =

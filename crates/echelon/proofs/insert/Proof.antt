@@ -43,12 +43,14 @@ element-write-member c = omega (arith, stopped c .slot)
 
 returns : tie.Need-returns
 returns c =
-    let a = c .before .before .before .before .before .args in
+    let start : tie.Start = search in
+    let a = start .args in
     puts-none (a .y) (a .v) (now (a .vec)) (now (a .mask)) (now (a .member)) _ (rw (c .enum-told .given .1) at (c .before .before .reduce .ensures))
 
 returns-2 : tie.Need-returns-2
 returns-2 c =
-    let s = c .before .before .before .before .before .before in
+    let start : tie.Start = search in
+    let s = start in
     let a = s .args in
     let t = c .before .slot .given .0 in
     puts-slot (a .y) (a .v) (now (a .vec)) (now (a .mask)) (now (a .member)) (t .0) (t .1 .0) (t .1 .1 .0) (s .pre .0) (stopped c)

@@ -31,9 +31,11 @@ element-copy-out-if1 c = search needs
 
 returns : tie.Need-returns Inv-loop μ-loop
 returns c =
-    let a = c .before .before .before .before .before .args in
-    let at = c .before .before .before .before .loop in
-    stops (now (a .vec)) (now (a .mask)) (c .before .before .before .before .before .pre .0) (at .rest) (c .before .before .leading .result)
+    let at-loop : tie.At-loop Inv-loop μ-loop = search in
+    let start : tie.Start Inv-loop μ-loop = search in
+    let a = start .args in
+    let at = at-loop .loop in
+    stops (now (a .vec)) (now (a .mask)) (start .pre .0) (at .rest) (c .before .before .leading .result)
     (c .before .before .leading .ensures) (a .v) (at .m) (c .if1 .taken) (at .inv .1)
 
 mul-rest : tie.Need-mul-rest Inv-loop μ-loop
@@ -50,17 +52,23 @@ element-copy-out-m c = search needs
 
 loop-less : tie.Need-loop-less Inv-loop μ-loop
 loop-less c =
-    let a = c .before .before .before .before .before .before .before .args in
-    let at = c .before .before .before .before .before .before .loop in
-    falls (now (a .vec)) (now (a .mask)) (c .before .before .before .before .before .before .before .pre .0) (at .rest)
-    (c .before .before .before .before .leading .result) (c .before .before .before .before .leading .ensures) (c .before .before .if1 .left)
+    let after-leading : tie.After-leading Inv-loop μ-loop = search in
+    let at-loop : tie.At-loop Inv-loop μ-loop = search in
+    let start : tie.Start Inv-loop μ-loop = search in
+    let a = start .args in
+    let at = at-loop .loop in
+    falls (now (a .vec)) (now (a .mask)) (start .pre .0) (at .rest)
+    (after-leading .leading .result) (after-leading .leading .ensures) (c .before .before .if1 .left)
 
 loop-again : tie.Need-loop-again Inv-loop μ-loop
 loop-again c =
-    let a = c .before .before .before .before .before .before .before .args in
-    let at = c .before .before .before .before .before .before .loop in
-    let s = c .before .before .before .before .leading .result in (
-      omega (arith, falls (now (a .vec)) (now (a .mask)) (c .before .before .before .before .before .before .before .pre .0) (at .rest) s (c .before .before .before .before .leading .ensures) (c .before .before .if1 .left)),
+    let after-leading : tie.After-leading Inv-loop μ-loop = search in
+    let at-loop : tie.At-loop Inv-loop μ-loop = search in
+    let start : tie.Start Inv-loop μ-loop = search in
+    let a = start .args in
+    let at = at-loop .loop in
+    let s = after-leading .leading .result in (
+      omega (arith, falls (now (a .vec)) (now (a .mask)) (start .pre .0) (at .rest) s (after-leading .leading .ensures) (c .before .before .if1 .left)),
       reached-step (now (a .vec)) (now (a .mask)) (a .v) (at .rest) (at .m) s (at .inv .1),
     )
 

@@ -20,28 +20,37 @@ array-share-prefix-list c = search needs
 
 slice-aggregate-scan-pairs : tie.Need-slice-aggregate-scan-pairs
 slice-aggregate-scan-pairs c =
-    let s = c .before .before .before .before .before .before .before .before in
-    let g = c .before .before .before .gather in
+    let after-gather : tie.After-gather = search in
+    let start : tie.Start = search in
+    let s = start in
+    let g = after-gather .gather in
     let m = c .before .before .enough in
     sym (enough-length (now (s .args .marks)) (g .last .1 .0) (g .result) (m .result) (s .pre .0) (g .ensures) (m .ensures))
 
 scan-pairs-requires : tie.Need-scan-pairs-requires
 scan-pairs-requires c κs =
-    let s = c .before .before .before .before .before .before .before .before .before in
-    let g = c .before .before .before .before .gather in
-    let m = c .before .before .before .enough in
-    (c .before .before .before .before .before .before .products .ensures, (enough-members (now (s .args .marks)) (g .last .1 .0) (g .result) (m .result) (s .pre .0) (g .ensures) (m .ensures), s .pre .1))
+    let after-enough : tie.After-enough = search in
+    let after-gather : tie.After-gather = search in
+    let after-products : tie.After-products = search in
+    let start : tie.Start = search in
+    let s = start in
+    let g = after-gather .gather in
+    let m = after-enough .enough in
+    (after-products .products .ensures, (enough-members (now (s .args .marks)) (g .last .1 .0) (g .result) (m .result) (s .pre .0) (g .ensures) (m .ensures), s .pre .1))
 
 same-length : tie.Need-same-length
 same-length c = search needs
 
 returns : tie.Need-returns
 returns c =
-    let s = c .before .before .before .before .before .before .before .before .before .before .before .before in
-    let g = c .before .before .before .before .before .before .before .gather in
-    let m = c .before .before .before .before .before .before .enough in
+    let after-enough : tie.After-enough = search in
+    let after-gather : tie.After-gather = search in
+    let start : tie.Start = search in
+    let s = start in
+    let g = after-gather .gather in
+    let m = after-enough .enough in
     let r = c .before .before .scan-pairs in
-    enough-search (now (s .args .marks)) (g .last .1 .0) (g .result) (m .result) (s .pre .0) (g .ensures) (m .ensures) (now (s .args .forty)) (r .last .1 .1 .0) (r .result) (r .ensures)
+    enough-search (now (s .args .marks)) (g .last .1 .0) (g .result) (m .result) (s .pre .0) (g .ensures) (m .ensures) (now (s .args .cells)) (r .last .1 .1 .0) (r .result) (r .ensures)
 
 pub search-spec : {M : Type 1} → statement M
 search-spec =

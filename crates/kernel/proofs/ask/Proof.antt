@@ -26,16 +26,22 @@ same-length c = search needs
 
 returns : tie.Need-returns
 returns c =
-    let a = c .before .before .before .before .before .before .before .before .before .before .args in
-    let k = c .before .before .before .before .before .before .before .before .column in
-    let m = c .before .before .before .before .before .m .given in
+    let after-m : tie.After-m = search in
+    let after-reduce : tie.After-reduce = search in
+    let after-column : tie.After-column = search in
+    let start : tie.Start = search in
+    let a = start .args in
+    let k = after-column .column in
+    let m = after-m .m .given in
     spells-by (a .z) (a .t) (a .a) (k .result) (now (a .vec)) (now (a .mask)) (k .ensures .0) (now (a .member)) (c .before .before .write-move .last .1 .1 .1 .1 .0) (m .0 .0)
-    (rw (m .1) at (c .before .before .before .before .before .before .before .reduce .ensures)) (c .before .before .write-move .ensures)
+    (rw (m .1) at (after-reduce .reduce .ensures)) (c .before .before .write-move .ensures)
 
 returns-2 : tie.Need-returns-2
 returns-2 c =
-    let a = c .before .before .before .before .before .args in
-    let k = c .before .before .before .column in
+    let after-column : tie.After-column = search in
+    let start : tie.Start = search in
+    let a = start .args in
+    let k = after-column .column in
     (refl, bars-by (a .z) (a .t) (a .a) (k .result) (now (a .vec)) (now (a .mask)) (k .ensures .0) _ _ _ (rw (c .enum-told .given .1) at (c .before .before .reduce .ensures)))
 
 pub ask-spec : {M : Type 1} → statement M

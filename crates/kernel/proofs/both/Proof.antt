@@ -1,4 +1,4 @@
--- Where a is barred the bytes are as they were, and b is asked.
+-- Where a is barred the cells are as they were, and b is asked.
 use mathlib.Core.Logic.{inl}
 use mathlib.Core.Path.{_∙_}
 use borrow.Author.Needs.{needs}
@@ -18,25 +18,32 @@ enum-told-2 c = search needs
 
 ask-requires-2 : tie.Need-ask-requires-2
 ask-requires-2 c κs =
-    let s = c .before .before .before .before .before .before .before .before in
-    (s .pre .0, (s .pre .1 .0, (s .pre .1 .1 .0, c .before .before .before .before .before .ask .kept .1 .1 .1 .1 .1 .1 .1 .0 ∙ s .pre .1 .1 .1)))
+    let after-ask : tie.After-ask = search in
+    let start : tie.Start = search in
+    let s = start in
+    (s .pre .0, (s .pre .1 .0, (s .pre .1 .1 .0, after-ask .ask .kept .1 .1 .1 .1 .1 .1 .1 .0 ∙ s .pre .1 .1 .1)))
 
 same-length : tie.Need-same-length
 same-length c = search needs
 
 returns : tie.Need-returns
-returns c = inl (rw (c .enum-told .given .1) at (c .before .before .before .before .ask .ensures))
+returns c =
+    let after-ask : tie.After-ask = search in
+    inl (rw (c .enum-told .given .1) at (after-ask .ask .ensures))
 
 same-length-2 : tie.Need-same-length-2
 same-length-2 c = search needs
 
 returns-2 : tie.Need-returns-2
 returns-2 c =
-    let a = c .before .before .before .before .before .before .before .before .before .before .before .args in
-    let first = c .before .before .before .before .before .before .before .before .ask in
+    let after-enum-told2 : tie.After-enum-told2 = search in
+    let after-ask : tie.After-ask = search in
+    let start : tie.Start = search in
+    let a = start .args in
+    let first = after-ask .ask in
     let second = c .before .before .ask2 in
-    asked-after (a .z) (a .t) (a .a) (a .b) (now (a .vec)) (now (a .mask)) (now (a .member)) (now (a .bytes)) (first .last .1 .1 .1 .1 .1 .1 .1 .0) (second .last .1 .1 .1 .1 .1 .1 .1 .0)
-    (rw (c .before .before .before .before .enum-told2 .given .1) at (first .ensures)) (second .result) (second .ensures)
+    asked-after (a .z) (a .t) (a .a) (a .b) (now (a .vec)) (now (a .mask)) (now (a .member)) (now (a .cells)) (first .last .1 .1 .1 .1 .1 .1 .1 .0) (second .last .1 .1 .1 .1 .1 .1 .1 .0)
+    (rw (after-enum-told2 .enum-told2 .given .1) at (first .ensures)) (second .result) (second .ensures)
 
 pub both-spec : {M : Type 1} → statement M
 both-spec =

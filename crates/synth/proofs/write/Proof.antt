@@ -11,13 +11,15 @@ write-fault-requires c κs = search needs
 
 returns : tie.Need-returns
 returns c =
-    let a = c .before .before .before .before .before .args in
+    let start : tie.Start = search in
+    let a = start .args in
     let f = c .before .write-fault in
     write-refused (a .n) (now (a .weights)) (now (a .rows)) (now (a .gates)) (f .result) (f .ensures) (omega arith)
 
 write-sound-requires : tie.Need-write-sound-requires
 write-sound-requires c κs =
-    let a = c .before .before .before .before .before .before .args in
+    let start : tie.Start = search in
+    let a = start .args in
     let f = c .before .before .write-fault in
     may-write (a .n) (now (a .weights)) (now (a .rows)) (now (a .gates)) (f .result) (f .ensures) (omega (arith, c .before .if1 .left))
 
@@ -26,9 +28,11 @@ same-length c = search needs
 
 returns-2 : tie.Need-returns-2
 returns-2 c =
+    let after-write-fault : tie.After-write-fault = search in
+    let start : tie.Start = search in
     let w = c .before .before in
-    let f = w .before .before .before .write-fault in
-    let a = w .before .before .before .before .before .before .before .args in
+    let f = after-write-fault .write-fault in
+    let a = start .args in
     write-done (a .n) (now (a .weights)) (now (a .rows)) (now (a .gates)) (f .result) (f .ensures) (omega (arith, w .before .before .if1 .left)) _ (w .write-sound .result) (w .write-sound .ensures)
 
 pub write-spec : {M : Type 1} → statement M

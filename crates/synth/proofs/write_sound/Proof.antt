@@ -6,15 +6,19 @@ use Rattle.synth.proofs.write_sound.Statement.{statement}
 use Rattle.synth.proofs.write_sound.Tie as tie
 
 write-phases-requires : tie.Need-write-phases-requires
-write-phases-requires c κs = let s = c .before .before .before .before in phases-ready (s .args .n) (now (s .args .weights)) (now (s .args .rows)) (now (s .args .gates)) (s .pre)
+write-phases-requires c κs =
+    let start : tie.Start = search in
+    let s = start in phases-ready (s .args .n) (now (s .args .weights)) (now (s .args .rows)) (now (s .args .gates)) (s .pre)
 
 copied-requires : tie.Need-copied-requires
 copied-requires c κs = search needs
 
 write-rows-requires : tie.Need-write-rows-requires
 write-rows-requires c κs =
-    let s = c .before .before .before .before .before .before .before .before .before in
-    let w = c .before .before .before .before .write-phases in
+    let after-write-phases : tie.After-write-phases = search in
+    let start : tie.Start = search in
+    let s = start in
+    let w = after-write-phases .write-phases in
     rows-ready (s .args .n) (now (s .args .weights)) (now (s .args .rows)) (now (s .args .gates)) (s .pre) _ (w .result) (w .ensures) (c .copied .result) (c .copied .ensures)
 
 same-length : tie.Need-same-length
@@ -22,9 +26,12 @@ same-length c = search needs
 
 returns : tie.Need-returns
 returns c =
-    let s = c .before .before .before .before .before .before .before .before .before .before .before .before in
-    let w = c .before .before .before .before .before .before .before .write-phases in
-    let m = c .before .before .before .copied in
+    let after-copied : tie.After-copied = search in
+    let after-write-phases : tie.After-write-phases = search in
+    let start : tie.Start = search in
+    let s = start in
+    let w = after-write-phases .write-phases in
+    let m = after-copied .copied in
     let r = c .before .before .write-rows in
     gates-stored (s .args .n) (now (s .args .weights)) (now (s .args .rows)) (now (s .args .gates)) (s .pre) _ (w .result) (w .ensures) (m .result) (m .ensures) _ (r .result) (r .ensures)
 

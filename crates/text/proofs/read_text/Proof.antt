@@ -8,7 +8,8 @@ use Rattle.text.proofs.read_text.Tie as tie
 
 returns : tie.Need-returns
 returns c =
-    let a = c .before .before .before .args in
+    let start : tie.Start = search in
+    let a = start .args in
     lent-refused (now (a .text)) (now (a .gates)) (omega arith)
 
 text-fault-requires : tie.Need-text-fault-requires
@@ -19,8 +20,10 @@ enum-known-found c = search needs
 
 returns-2 : tie.Need-returns-2
 returns-2 c =
-    let f = c .before .before .before in
-    let a = f .before .before .before .before .args in
+    let after-text-fault : tie.After-text-fault = search in
+    let start : tie.Start = search in
+    let f = after-text-fault in
+    let a = start .args in
     let found = f .text-fault in
     let given = c .before .found .given in
     text-refused (now (a .text)) (now (a .gates)) (omega arith) (found .result) (found .ensures) (given .0 .0) (given .0 .1 .0) (given .1)
@@ -30,8 +33,9 @@ enum-told c = search needs
 
 byte-at-requires : tie.Need-byte-at-requires
 byte-at-requires c κs =
+    let start : tie.Start = search in
     let f = c .before .before in
-    let a = f .before .before .before .before .args in
+    let a = start .args in
     let found = f .text-fault in
     one-there (now (a .text)) (now (a .gates)) (omega arith) (found .result) (found .ensures) (c .enum-told .given .1)
 
@@ -40,8 +44,10 @@ cast-n c = search needs
 
 store-gates-requires : tie.Need-store-gates-requires
 store-gates-requires c κs =
-    let f = c .before .before .before .before in
-    let a = f .before .before .before .before .args in
+    let after-text-fault : tie.After-text-fault = search in
+    let start : tie.Start = search in
+    let f = after-text-fault in
+    let a = start .args in
     let found = f .text-fault in
     may-store (now (a .text)) (now (a .gates)) (omega arith) (found .result) (found .ensures) (c .before .before .enum-told .given .1)
 
@@ -50,13 +56,17 @@ same-length c = search needs
 
 returns-3 : tie.Need-returns-3
 returns-3 c =
-    let f = c .before .before .before .before .before .before .before in
-    let a = f .before .before .before .before .args in
+    let after-byte-at : tie.After-byte-at = search in
+    let after-enum-told : tie.After-enum-told = search in
+    let after-text-fault : tie.After-text-fault = search in
+    let start : tie.Start = search in
+    let f = after-text-fault in
+    let a = start .args in
     let found = f .text-fault in
-    let v = c .before .before .before .before .byte-at in
+    let v = after-byte-at .byte-at in
     let s = c .before .before .store-gates in
     text-read (now (a .text)) (now (a .gates)) (omega arith) (found .result) (found .ensures)
-    (c .before .before .before .before .before .enum-told .given .1) (v .result) (s .result) _ (v .ensures) (s .ensures)
+    (after-enum-told .enum-told .given .1) (v .result) (s .result) _ (v .ensures) (s .ensures)
 
 pub read-text-spec : {M : Type 1} → statement M
 read-text-spec =

@@ -15,12 +15,14 @@ enum-known-bytes c = search needs
 
 array-share-prefix-text : tie.Need-array-share-prefix-text
 array-share-prefix-text c =
-    let r = c .before .before .before .before .read-input in
+    let after-read-input : tie.After-read-input = search in
+    let r = after-read-input .read-input in
     within _ (r .result) (r .ensures) _ (c .before .bytes .given .1) .0
 
 slice-aggregate-reply-to : tie.Need-slice-aggregate-reply-to
 slice-aggregate-reply-to c =
-    let r = c .before .before .before .before .before .read-input in
+    let after-read-input : tie.After-read-input = search in
+    let r = after-read-input .read-input in
     within _ (r .result) (r .ensures) _ (c .before .before .bytes .given .1) .1
 
 reply-to-requires : tie.Need-reply-to-requires

@@ -39,7 +39,8 @@ returns c = front _ _ (search needs)
 
 add-done : tie.Need-add-done Inv-loop μ-loop
 add-done c =
-    let r = c .before .before .before .before .before .before .read-more in
+    let after-read-more : tie.After-read-more Inv-loop μ-loop = search in
+    let r = after-read-more .read-more in
     let w = within _ (r .result) (r .ensures) _ (c .before .before .bytes .given .1) in
     search (needs, w)
 
@@ -48,7 +49,8 @@ loop-less c = search needs
 
 loop-again : tie.Need-loop-again Inv-loop μ-loop
 loop-again c =
-    let r = c .before .before .before .before .before .before .read-more in
+    let after-read-more : tie.After-read-more Inv-loop μ-loop = search in
+    let r = after-read-more .read-more in
     let w = within _ (r .result) (r .ensures) _ (c .before .before .bytes .given .1) in
     search (needs, w)
 

@@ -24,12 +24,14 @@ enum-known-bytes c = search needs
 
 array-share-prefix-out : tie.Need-array-share-prefix-out
 array-share-prefix-out c =
-    let a = c .before .before .before .before .answer in
+    let after-answer : tie.After-answer = search in
+    let a = after-answer .answer in
     reply-stands _ _ _ (a .result) (a .ensures) _ (c .before .bytes .given .1) .within
 
 slice-aggregate-write-reply : tie.Need-slice-aggregate-write-reply
 slice-aggregate-write-reply c =
-    let a = c .before .before .before .before .before .answer in
+    let after-answer : tie.After-answer = search in
+    let a = after-answer .answer in
     reply-stands _ _ _ (a .result) (a .ensures) _ (c .before .before .bytes .given .1) .long
 
 write-reply-requires : tie.Need-write-reply-requires

@@ -1,60 +1,44 @@
 -- Each step leaves what the next one needs, and `finish` puts them together.
 use mathlib.Core.Path.{refl}
 use borrow.Author.Needs.{needs}
-use denote.Ref.{now}
 use Rattle.trimmer.proofs.Finish.{finish, sound-first, sound-last, sound-new, sound-rows, sound-weights}
 use Rattle.trimmer.proofs.trim_accepted.Statement.{statement}
 use Rattle.trimmer.proofs.trim_accepted.Tie as tie
 
 read-gates-requires : tie.Need-read-gates-requires
-read-gates-requires c κs = let p = c .before .before .before .pre .0 in (p .few, p .formed)
+read-gates-requires c κs = search needs
 
 odd-marks-requires : tie.Need-odd-marks-requires
 odd-marks-requires c κs = search needs
 
 make-moves-requires : tie.Need-make-moves-requires
 make-moves-requires c κs =
-    let t = c .before .before .before .before in
-    let a = t .before .before .before .before .args in
-    let p = t .before .before .before .before .pre in
-    let g = now (a .gates) in
-    let w = t .read-gates .result .weights in
-    let rows = t .read-gates .result .rows in
-    let reads = t .read-gates .ensures in
-    let o = c .before .odd-marks in
-    (p .0 .some, p .0 .few, sound-first (a .n) g (p .0) w rows reads (o .result) (o .ensures), p .2)
+    let o : tie.After-odd-marks = search in
+    let t : tie.After-read-gates = search in
+    let s : tie.Start = search in
+    let f = sound-first _ _ (s .pre .0) _ _ (t .read-gates .ensures) _ (o .odd-marks .ensures) in
+    search needs
 
 weights-for-requires : tie.Need-weights-for-requires
 weights-for-requires c κs =
-    let t = c .before .before .before .before .before .before .before .before in
-    let a = t .before .before .before .before .args in
-    let p = t .before .before .before .before .pre in
-    let g = now (a .gates) in
-    let w = t .read-gates .result .weights in
-    let rows = t .read-gates .result .rows in
-    let reads = t .read-gates .ensures in
-    let o = c .before .before .before .before .before .odd-marks in
-    let m = c .before .before .before .make-moves in
-    (p .0 .some, p .0 .few, sound-weights (a .n) g (p .0) w rows reads, sound-last (a .n) g (p .0) w rows reads (o .result) (o .ensures) (now (a .log)) _ (m .result .count) (m .result .marks) (m .ensures))
+    let m : tie.After-make-moves = search in
+    let o : tie.After-odd-marks = search in
+    let t : tie.After-read-gates = search in
+    let s : tie.Start = search in
+    let w = sound-weights _ _ (s .pre .0) _ _ (t .read-gates .ensures) in
+    let l = sound-last _ _ (s .pre .0) _ _ (t .read-gates .ensures) _ (o .odd-marks .ensures) _ _ _ _ (m .make-moves .ensures) in
+    search needs
 
 write-list-requires : tie.Need-write-list-requires
 write-list-requires c κs =
-    let t = c .before .before .before .before .before .before .before .before .before .before in
-    let a = t .before .before .before .before .args in
-    let p = t .before .before .before .before .pre in
-    let g = now (a .gates) in
-    let w = t .read-gates .result .weights in
-    let rows = t .read-gates .result .rows in
-    let reads = t .read-gates .ensures in
-    let o = c .before .before .before .before .before .before .before .odd-marks in
-    let m = c .before .before .before .before .before .make-moves in
-    let v = c .before .weights-for in (
-      p .0 .some,
-      p .0 .few,
-      sound-new (a .n) g (p .0) w rows reads (o .result) (o .ensures) (now (a .log)) _ (m .result .count) (m .result .marks) (m .ensures) (v .result) (v .ensures),
-      sound-rows (a .n) g (p .0) w rows reads,
-      p .1,
-    )
+    let v : tie.After-weights-for = search in
+    let m : tie.After-make-moves = search in
+    let o : tie.After-odd-marks = search in
+    let t : tie.After-read-gates = search in
+    let s : tie.Start = search in
+    let w = sound-new _ _ (s .pre .0) _ _ (t .read-gates .ensures) _ (o .odd-marks .ensures) _ _ _ _ (m .make-moves .ensures) _ (v .weights-for .ensures) in
+    let r = sound-rows _ _ (s .pre .0) _ _ (t .read-gates .ensures) in
+    search needs
 
 t-gates-requires : tie.Need-t-gates-requires
 t-gates-requires c κs = search needs
@@ -73,20 +57,17 @@ same-length-2 c = search needs
 
 returns : tie.Need-returns
 returns c =
-    let t = c .before .before .before .before .before .before .before .before .before .before .before .before .before .before .before .before .before .before in
-    let a = t .before .before .before .before .args in
-    let p = t .before .before .before .before .pre in
-    let g = now (a .gates) in
-    let w = t .read-gates .result .weights in
-    let rows = t .read-gates .result .rows in
-    let reads = t .read-gates .ensures in
-    let o = c .before .before .before .before .before .before .before .before .before .before .before .before .before .before .before .odd-marks in
-    let m = c .before .before .before .before .before .before .before .before .before .before .before .before .before .make-moves in
-    let v = c .before .before .before .before .before .before .before .before .before .weights-for in
-    let d = c .before .before .before .before .before .before .before .write-list in
-    finish (a .n) g (p .0) w rows reads (o .result) (o .ensures) (now (a .log)) _ (m .result .count) (m .result .marks) (m .ensures) (v .result) (v .ensures)
-    (now (a .out)) _ (d .result) (d .ensures) _
-    (c .before .before .before .before .t-gates .ensures) (c .before .before .members-of .ensures) (c .members-of2 .ensures) refl refl
+    let last : tie.After-members-of2 = search in
+    let first : tie.After-members-of = search in
+    let g : tie.After-t-gates = search in
+    let d : tie.After-write-list = search in
+    let v : tie.After-weights-for = search in
+    let m : tie.After-make-moves = search in
+    let o : tie.After-odd-marks = search in
+    let t : tie.After-read-gates = search in
+    let s : tie.Start = search in
+    finish _ _ (s .pre .0) _ _ (t .read-gates .ensures) _ (o .odd-marks .ensures) _ _ _ _ (m .make-moves .ensures) _ (v .weights-for .ensures) _ _ _ (d .write-list .ensures) _
+    (g .t-gates .ensures) (first .members-of .ensures) (last .members-of2 .ensures) refl refl
 
 pub trim-accepted-spec : {M : Type 1} → statement M
 trim-accepted-spec =

@@ -17,13 +17,17 @@ slice-write-marks : tie.Need-slice-write-marks
 slice-write-marks c = search needs
 
 same-length : tie.Need-same-length
-same-length c = simp length-set (c .before .before .turn-if-odd .kept .0 ∙ c .before .before .before .before .before .before .turn-pairs .kept .0)
+same-length c =
+    let after-turn-pairs : tie.After-turn-pairs = search in
+    simp length-set (c .before .before .turn-if-odd .kept .0 ∙ after-turn-pairs .turn-pairs .kept .0)
 
 returns : tie.Need-returns
 returns c =
-    let a = c .before .before .before .before .before .before .before .before .before .before .args in
-    carried (now (a .marks)) (c .before .before .before .before .before .before .turn-pairs .last .0) (c .before .before .turn-if-odd .last .0) (a .z)
-    (now (a .ys)) (c .before .before .before .before .before .before .turn-pairs .ensures) (c .before .before .turn-if-odd .ensures)
+    let after-turn-pairs : tie.After-turn-pairs = search in
+    let start : tie.Start = search in
+    let a = start .args in
+    carried (now (a .marks)) (after-turn-pairs .turn-pairs .last .0) (c .before .before .turn-if-odd .last .0) (a .z)
+    (now (a .ys)) (after-turn-pairs .turn-pairs .ensures) (c .before .before .turn-if-odd .ensures)
 
 pub carry-spec : {M : Type 1} → statement M
 carry-spec =

@@ -18,8 +18,10 @@ same-length c = search needs
 
 returns-2 : tie.Need-returns-2
 returns-2 c =
-    let a = c .before .before .before .before .before .before .args in
-    turned-odd (now (a .marks)) (a .z) (a .count) (c .before .before .turn .last .0) (c .before .before .before .before .if1 .left) (c .before .before .turn .ensures)
+    let else1 : tie.Else1 = search in
+    let start : tie.Start = search in
+    let a = start .args in
+    turned-odd (now (a .marks)) (a .z) (a .count) (c .before .before .turn .last .0) (else1 .if1 .left) (c .before .before .turn .ensures)
 
 pub turn-if-odd-spec : {M : Type 1} → statement M
 turn-if-odd-spec = tie.close (tie.spec returns turn-requires same-length returns-2)

@@ -36,14 +36,18 @@ loop-less c = search needs
 
 loop-again : tie.Need-loop-again Inv-loop μ-loop
 loop-again c =
-    let a = c .before .before .before .before .before .before .before .before .before .before .before .before .before .args in
-    let at = c .before .before .before .before .before .before .before .before .before .before .loop in
-    let w = c .before .before .before .before .before .before .turn in
+    let after-turn : tie.After-turn Inv-loop μ-loop = search in
+    let in-loop : tie.In-loop Inv-loop μ-loop = search in
+    let at-loop : tie.At-loop Inv-loop μ-loop = search in
+    let start : tie.Start Inv-loop μ-loop = search in
+    let a = start .args in
+    let at = at-loop .loop in
+    let w = after-turn .turn in
     let v = c .before .before .turn2 in (
       search needs,
       v .kept .0 ∙ w .kept .0 ∙ at .inv .1,
       pairs-next (at .marks) (w .last .0) (v .last .0) (flipPairs (now (a .marks)) (a .z) (now (a .ys))) (a .z) (now (a .ys)) (at .i)
-          (c .before .before .before .before .before .before .before .before .before .loop-test .taken) (w .ensures) (v .ensures) (at .inv .2),
+          (in-loop .loop-test .taken) (w .ensures) (v .ensures) (at .inv .2),
     )
 
 same-length : tie.Need-same-length Inv-loop μ-loop
@@ -51,7 +55,8 @@ same-length c = search needs
 
 returns : tie.Need-returns Inv-loop μ-loop
 returns c =
-    let a = c .before .before .before .before .args in
+    let start : tie.Start Inv-loop μ-loop = search in
+    let a = start .args in
     let at = c .before .loop in
     pairs-end (at .marks) (flipPairs (now (a .marks)) (a .z) (now (a .ys))) (a .z) (now (a .ys)) (at .i) (omega arith) (at .inv .2)
 

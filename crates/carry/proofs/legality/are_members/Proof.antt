@@ -28,9 +28,12 @@ is-member-requires c κs = search needs
 
 returns : tie.Need-returns Inv-loop μ-loop
 returns c =
+    let in-loop : tie.In-loop Inv-loop μ-loop = search in
+    let at-loop : tie.At-loop Inv-loop μ-loop = search in
+    let start : tie.Start Inv-loop μ-loop = search in
     let y = c .before .is-member in
-    let i = c .before .before .before .before .loop .i in
-    answer-no (λ all. denied (y .result) (y .ensures) (c .if1 .taken) (all (getD (now (c .before .before .before .before .before .before .before .args .ys)) i 0) (i, c .before .before .before .loop-test .taken, refl)))
+    let i = at-loop .loop .i in
+    answer-no (λ all. denied (y .result) (y .ensures) (c .if1 .taken) (all (getD (now (start .args .ys)) i 0) (i, in-loop .loop-test .taken, refl)))
 
 add-i : tie.Need-add-i Inv-loop μ-loop
 add-i c = search needs
@@ -40,13 +43,16 @@ loop-less c = search needs
 
 loop-again : tie.Need-loop-again Inv-loop μ-loop
 loop-again c =
-    let a = c .before .before .before .before .before .before .before .args in
+    let at-loop : tie.At-loop Inv-loop μ-loop = search in
+    let start : tie.Start Inv-loop μ-loop = search in
+    let a = start .args in
     let y = c .before .is-member in
-    (search needs, below-more (λ (j : ℕ). Member (now (a .marks)) (getD (now (a .ys)) j 0)) (c .before .before .before .before .loop .i) (c .before .before .before .before .loop .inv .1) (granted (y .result) (y .ensures) (c .if1 .left)))
+    (search needs, below-more (λ (j : ℕ). Member (now (a .marks)) (getD (now (a .ys)) j 0)) (at-loop .loop .i) (at-loop .loop .inv .1) (granted (y .result) (y .ensures) (c .if1 .left)))
 
 returns-2 : tie.Need-returns-2 Inv-loop μ-loop
 returns-2 c =
-    let a = c .before .before .before .before .args in
+    let start : tie.Start Inv-loop μ-loop = search in
+    let a = start .args in
     answer-yes (all-in (Member (now (a .marks))) (now (a .ys)) (c .before .loop .i) (omega arith) (c .before .loop .inv .1))
 
 pub are-members-spec : {M : Type 1} → statement M

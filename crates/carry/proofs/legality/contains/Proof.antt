@@ -23,7 +23,9 @@ shared-slice-read-if1 : tie.Need-shared-slice-read-if1 Inv-loop μ-loop
 shared-slice-read-if1 c = search needs
 
 returns : tie.Need-returns Inv-loop μ-loop
-returns c = answer-yes (c .before .before .before .loop .i, c .before .before .loop-test .taken, c .if1 .taken)
+returns c =
+    let at-loop : tie.At-loop Inv-loop μ-loop = search in
+    answer-yes (at-loop .loop .i, c .before .before .loop-test .taken, c .if1 .taken)
 
 add-i : tie.Need-add-i Inv-loop μ-loop
 add-i c = search needs
@@ -33,8 +35,10 @@ loop-less c = search needs
 
 loop-again : tie.Need-loop-again Inv-loop μ-loop
 loop-again c =
-    let a = c .before .before .before .before .args in
-    (search needs, below-more (λ (j : ℕ). getD (now (a .ys)) j 0 ≡ a .b → ⊥) (c .before .before .before .loop .i) (c .before .before .before .loop .inv .1) (c .if1 .left))
+    let at-loop : tie.At-loop Inv-loop μ-loop = search in
+    let start : tie.Start Inv-loop μ-loop = search in
+    let a = start .args in
+    (search needs, below-more (λ (j : ℕ). getD (now (a .ys)) j 0 ≡ a .b → ⊥) (at-loop .loop .i) (at-loop .loop .inv .1) (c .if1 .left))
 
 returns-2 : tie.Need-returns-2 Inv-loop μ-loop
 returns-2 c = answer-no (λ t. c .before .loop .inv .1 (t .0) (omega (arith, t .1)) (t .2))

@@ -31,7 +31,10 @@ shared-slice-read-if1-2 : tie.Need-shared-slice-read-if1-2 Inv-loop μ-loop
 shared-slice-read-if1-2 c = search needs
 
 returns : tie.Need-returns Inv-loop μ-loop
-returns c = answer-no (not-ascending (now (c .before .before .before .before .before .args .ys)) (c .before .before .before .before .loop .i) (omega arith) (omega arith))
+returns c =
+    let at-loop : tie.At-loop Inv-loop μ-loop = search in
+    let start : tie.Start Inv-loop μ-loop = search in
+    answer-no (not-ascending (now (start .args .ys)) (at-loop .loop .i) (omega arith) (omega arith))
 
 add-i : tie.Need-add-i Inv-loop μ-loop
 add-i c = search needs
@@ -41,8 +44,10 @@ loop-less c = search needs
 
 loop-again : tie.Need-loop-again Inv-loop μ-loop
 loop-again c =
-    let ys = now (c .before .before .before .before .before .args .ys) in
-    (search needs, below-more (λ (j : ℕ). getD ys j 0 < getD ys (j + 1) 0) (c .before .before .before .before .loop .i) (c .before .before .before .before .loop .inv .1) (omega arith))
+    let at-loop : tie.At-loop Inv-loop μ-loop = search in
+    let start : tie.Start Inv-loop μ-loop = search in
+    let ys = now (start .args .ys) in
+    (search needs, below-more (λ (j : ℕ). getD ys j 0 < getD ys (j + 1) 0) (at-loop .loop .i) (at-loop .loop .inv .1) (omega arith))
 
 returns-2 : tie.Need-returns-2 Inv-loop μ-loop
 returns-2 c = answer-yes (ascending-all (now (c .before .before .args .ys)) (c .before .loop .i) (omega arith) (c .before .loop .inv .1))

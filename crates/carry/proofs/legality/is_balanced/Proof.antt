@@ -33,9 +33,12 @@ shared-slice-read-column c = search needs
 
 column-requires : tie.Need-column-requires Inv-loop μ-loop
 column-requires c κs =
-    let s = c .before .before .before .before .before .before .before in
-    let l = c .before .before .before .before .lowest in
-    (c .before .before .before .before .before .products .ensures, wire-lt maxWires (s .args .z) (l .result) (l .ensures .0) (s .pre) (omega arith))
+    let after-lowest : tie.After-lowest Inv-loop μ-loop = search in
+    let after-products : tie.After-products Inv-loop μ-loop = search in
+    let start : tie.Start Inv-loop μ-loop = search in
+    let s = start in
+    let l = after-lowest .lowest in
+    (after-products .products .ensures, wire-lt maxWires (s .args .z) (l .result) (l .ensures .0) (s .pre) (omega arith))
 
 add-i : tie.Need-add-i Inv-loop μ-loop
 add-i c = search needs
@@ -45,22 +48,28 @@ loop-less c = search needs
 
 loop-again : tie.Need-loop-again Inv-loop μ-loop
 loop-again c =
-    let a = c .before .before .before .before .before .before .before .before .args in
-    let at = c .before .before .before .before .loop in
-    let f = kappa maxWires (a .z) (c .before .before .before .before .before .lowest .result) in (
+    let in-loop : tie.In-loop Inv-loop μ-loop = search in
+    let at-loop : tie.At-loop Inv-loop μ-loop = search in
+    let after-lowest : tie.After-lowest Inv-loop μ-loop = search in
+    let start : tie.Start Inv-loop μ-loop = search in
+    let a = start .args in
+    let at = at-loop .loop in
+    let f = kappa maxWires (a .z) (after-lowest .lowest .result) in (
       search needs,
-      xor-next f (now (a .ys)) (at .i) (at .sum) (c .column .result) (xorAll (map f (now (a .ys)))) (c .before .before .before .loop-test .taken) (c .column .ensures .0) (at .inv .1),
+      xor-next f (now (a .ys)) (at .i) (at .sum) (c .column .result) (xorAll (map f (now (a .ys)))) (in-loop .loop-test .taken) (c .column .ensures .0) (at .inv .1),
     )
 
 returns : tie.Need-returns Inv-loop μ-loop
 returns c =
-    let s = c .before .before .before .before .before in
+    let after-shared-slice-known : tie.After-shared-slice-known Inv-loop μ-loop = search in
+    let start : tie.Start Inv-loop μ-loop = search in
+    let s = start in
     let at = c .before .loop in
     let ys = now (s .args .ys) in
     let l = c .before .before .lowest in
     let f = kappa maxWires (s .args .z) (l .result) in
     balanced-by-xor maxWires (s .args .z) (l .result) (l .ensures .0) (s .pre) (omega arith) ys (at .sum)
-    (λ i h. omega (arith, c .before .before .before .before .shared-slice-known .given i)) (xor-end f ys (at .i) (at .sum) (xorAll (map f ys)) (omega arith) (at .inv .1))
+    (λ i h. omega (arith, after-shared-slice-known .shared-slice-known .given i)) (xor-end f ys (at .i) (at .sum) (xorAll (map f ys)) (omega arith) (at .inv .1))
 
 pub is-balanced-spec : {M : Type 1} → statement M
 is-balanced-spec =

@@ -27,15 +27,21 @@ returns-3 c = answer-no (λ g. denied (c .before .separates .result) (c .before 
 
 is-balanced-requires : tie.Need-is-balanced-requires
 is-balanced-requires c κs =
-    let a = c .before .before .before .before .before .before .before .before .args in
+    let start : tie.Start = search in
+    let a = start .args in
     separates-some (now (a .marks)) (a .z) (now (a .ys)) (granted (c .before .separates .result) (c .before .separates .ensures) (c .if3 .left))
 
 returns-4 : tie.Need-returns-4
 returns-4 c =
-    let a = c .before .before .before .before .before .before .before .before .before .args in
-    legal-if-balanced maxMembers maxWires (now (a .marks)) (a .z) (now (a .ys)) (c .is-balanced .result) (c .before .before .before .before .before .before .before .before .before .pre .1)
-    (granted (c .before .before .before .before .before .before .is-ascending .result) (c .before .before .before .before .before .before .is-ascending .ensures) (c .before .before .before .before .before .if1 .left))
-    (granted (c .before .before .before .before .are-members .result) (c .before .before .before .before .are-members .ensures) (c .before .before .before .if2 .left))
+    let else2 : tie.Else2 = search in
+    let after-are-members : tie.After-are-members = search in
+    let else1 : tie.Else1 = search in
+    let after-is-ascending : tie.After-is-ascending = search in
+    let start : tie.Start = search in
+    let a = start .args in
+    legal-if-balanced maxMembers maxWires (now (a .marks)) (a .z) (now (a .ys)) (c .is-balanced .result) (start .pre .1)
+    (granted (after-is-ascending .is-ascending .result) (after-is-ascending .is-ascending .ensures) (else1 .if1 .left))
+    (granted (after-are-members .are-members .result) (after-are-members .are-members .ensures) (else2 .if2 .left))
     (granted (c .before .before .separates .result) (c .before .before .separates .ensures) (c .before .if3 .left))
     (c .is-balanced .ensures)
 

@@ -1,4 +1,4 @@
--- The form of the bytes, and then the move that they say.
+-- The form of the cells, and then the move that they say.
 use native.Mathlib.Omega.{arith}
 use borrow.Author.Needs.{needs}
 use denote.Ref.{now}
@@ -13,8 +13,9 @@ has-form-requires c κs = search needs
 
 returns : tie.Need-returns
 returns c =
-    let a = c .before .before .before .before .args in
-    answer-no (λ g. denied (c .before .has-form .result) (c .before .has-form .ensures) (c .if1 .taken) (legal-said maxMembers maxWires (now (a .marks)) (now (a .bytes)) g .0))
+    let start : tie.Start = search in
+    let a = start .args in
+    answer-no (λ g. denied (c .before .has-form .result) (c .before .has-form .ensures) (c .if1 .taken) (legal-said maxMembers maxWires (now (a .marks)) (now (a .cells)) g .0))
 
 shared-slice-read-is-legal : tie.Need-shared-slice-read-is-legal
 shared-slice-read-is-legal c =
@@ -26,13 +27,18 @@ set-of-requires c κs = granted (c .before .before .has-form .result) (c .before
 
 is-legal-requires : tie.Need-is-legal-requires
 is-legal-requires c κs =
-    (c .before .before .before .before .before .before .pre, rw (c .set-of .ensures) (set-few maxMembers (now (c .before .before .before .before .before .before .args .bytes)) (granted (c .before .before .before .has-form .result) (c .before .before .before .has-form .ensures) (c .before .before .if1 .left))))
+    let after-has-form : tie.After-has-form = search in
+    let start : tie.Start = search in
+    (start .pre, rw (c .set-of .ensures) (set-few maxMembers (now (start .args .cells)) (granted (after-has-form .has-form .result) (after-has-form .has-form .ensures) (c .before .before .if1 .left))))
 
 returns-2 : tie.Need-returns-2
 returns-2 c =
-    let a = c .before .before .before .before .before .before .before .args in
-    move-if-legal maxMembers maxWires (now (a .marks)) (now (a .bytes)) (now (c .before .set-of .result)) (c .is-legal .result)
-    (granted (c .before .before .before .before .has-form .result) (c .before .before .before .before .has-form .ensures) (c .before .before .before .if1 .left)) (c .before .set-of .ensures) (c .is-legal .ensures)
+    let else1 : tie.Else1 = search in
+    let after-has-form : tie.After-has-form = search in
+    let start : tie.Start = search in
+    let a = start .args in
+    move-if-legal maxMembers maxWires (now (a .marks)) (now (a .cells)) (now (c .before .set-of .result)) (c .is-legal .result)
+    (granted (after-has-form .has-form .result) (after-has-form .has-form .ensures) (else1 .if1 .left)) (c .before .set-of .ensures) (c .is-legal .ensures)
 
 pub is-move-spec : {M : Type 1} → statement M
 is-move-spec =

@@ -28,8 +28,11 @@ is-outside-requires c κs = search needs
 
 returns : tie.Need-returns Inv-loop μ-loop
 returns c =
-    let a = c .before .before .before .before .before .before .before .args in
-    answer-yes (separates-found (now (a .marks)) (a .z) (now (a .ys)) (c .before .before .before .before .loop .i) (c .before .before .before .loop-test .taken) (c .before .is-outside .ensures .0 (c .if1 .taken)))
+    let in-loop : tie.In-loop Inv-loop μ-loop = search in
+    let at-loop : tie.At-loop Inv-loop μ-loop = search in
+    let start : tie.Start Inv-loop μ-loop = search in
+    let a = start .args in
+    answer-yes (separates-found (now (a .marks)) (a .z) (now (a .ys)) (at-loop .loop .i) (in-loop .loop-test .taken) (c .before .is-outside .ensures .0 (c .if1 .taken)))
 
 add-i : tie.Need-add-i Inv-loop μ-loop
 add-i c = search needs
@@ -39,13 +42,16 @@ loop-less c = search needs
 
 loop-again : tie.Need-loop-again Inv-loop μ-loop
 loop-again c =
-    let a = c .before .before .before .before .before .before .before .args in
-    let at = c .before .before .before .before .loop in
+    let at-loop : tie.At-loop Inv-loop μ-loop = search in
+    let start : tie.Start Inv-loop μ-loop = search in
+    let a = start .args in
+    let at = at-loop .loop in
     (search needs, below-more (λ (j : ℕ). Outside (now (a .marks)) (now (a .ys)) (bitXor (getD (now (a .ys)) j 0) (a .z)) → ⊥) (at .i) (at .inv .1) (c .before .is-outside .ensures .1 (c .if1 .left)))
 
 returns-2 : tie.Need-returns-2 Inv-loop μ-loop
 returns-2 c =
-    let a = c .before .before .before .before .args in
+    let start : tie.Start Inv-loop μ-loop = search in
+    let a = start .args in
     answer-no (separates-none (now (a .marks)) (a .z) (now (a .ys)) (c .before .loop .i) (omega arith) (c .before .loop .inv .1))
 
 pub separates-spec : {M : Type 1} → statement M

@@ -28,9 +28,9 @@ part-result-end c = search needs
 
 returns : tie.Need-returns
 returns c =
-    let bytes = now (c .before .before .args .bytes) in
-    let e : getD bytes 1 0 + 2 - 2 ≡ getD bytes 1 0 = omega arith in
-    ap (λ (k : ℕ). take k (drop 2 bytes)) e
+    let cells = now (c .before .before .args .cells) in
+    let e : getD cells 1 0 + 2 - 2 ≡ getD cells 1 0 = omega arith in
+    ap (λ (k : ℕ). take k (drop 2 cells)) e
 
 pub set-of-spec : {M : Type 1} → statement M
 set-of-spec =

@@ -51,7 +51,8 @@ gate-fault-requires c κs = search needs
 
 returns : tie.Need-returns Inv-loop μ-loop
 returns c =
-    let at = c .before .before .before .before .before .before in
+    let at-loop : tie.At-loop Inv-loop μ-loop = search in
+    let at = at-loop in
     let a = at .before .before .args in
     fault-here (a .n) (now (a .gates)) (at .loop .i) (omega arith) (c .before .gate-fault .result) (c .before .gate-fault .ensures) (omega arith) ∙ at .loop .inv .2
 
@@ -63,7 +64,8 @@ loop-less c = search needs
 
 loop-again : tie.Need-loop-again Inv-loop μ-loop
 loop-again c =
-    let at = c .before .before .before .before .before .before in
+    let at-loop : tie.At-loop Inv-loop μ-loop = search in
+    let at = at-loop in
     let a = at .before .before .args in (
       search needs,
       search needs,

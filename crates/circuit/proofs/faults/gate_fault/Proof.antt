@@ -27,18 +27,23 @@ enum-told-3 c = search needs
 
 returns : tie.Need-returns
 returns c =
-    let a = c .before .before .before .before .args in
-    by-kind (a .n) (a .kind) (a .a) (a .b) Cnot (c .cnot-fault .result) (sym (c .before .enum-told .given .1) ∙ c .before .before .before .kind-of .ensures) (c .cnot-fault .ensures)
+    let after-kind-of : tie.After-kind-of = search in
+    let start : tie.Start = search in
+    let a = start .args in
+    by-kind (a .n) (a .kind) (a .a) (a .b) Cnot (c .cnot-fault .result) (sym (c .before .enum-told .given .1) ∙ after-kind-of .kind-of .ensures) (c .cnot-fault .ensures)
 
 returns-2 : tie.Need-returns-2
 returns-2 c =
-    let a = c .before .before .before .before .args in
+    let after-kind-of : tie.After-kind-of = search in
+    let start : tie.Start = search in
+    let a = start .args in
     by-kind (a .n) (a .kind) (a .a) (a .b) (Phase (c .before .enum-told2 .given .0 .0)) (c .phase-fault .result)
-    (sym (c .before .enum-told2 .given .1) ∙ c .before .before .before .kind-of .ensures) (c .phase-fault .ensures)
+    (sym (c .before .enum-told2 .given .1) ∙ after-kind-of .kind-of .ensures) (c .phase-fault .ensures)
 
 returns-3 : tie.Need-returns-3
 returns-3 c =
-    let a = c .before .before .before .args in
+    let start : tie.Start = search in
+    let a = start .args in
     by-kind (a .n) (a .kind) (a .a) (a .b) Unknown gateKind (sym (c .enum-told3 .given .1) ∙ c .before .before .kind-of .ensures) refl
 
 pub gate-fault-spec : {M : Type 1} → statement M

@@ -29,12 +29,16 @@ or-else-requires-3 c κs = search needs
 returns : tie.Need-returns
 unfolding readFault
 returns c =
+    let after-wires-fault : tie.After-wires-fault = search in
+    let after-or-else : tie.After-or-else = search in
+    let after-lent-fault2 : tie.After-lent-fault2 = search in
+    let after-lent-fault : tie.After-lent-fault = search in
     c .or-else3 .ensures
-    ∙ ap₂ orElse (c .before .before .before .wires-fault .ensures)
+    ∙ ap₂ orElse (after-wires-fault .wires-fault .ensures)
     (c .before .or-else2 .ensures
     ∙ ap₂ orElse (c .before .before .list-fault .ensures)
-    (c .before .before .before .before .or-else .ensures
-    ∙ ap₂ orElse (c .before .before .before .before .before .before .lent-fault .ensures) (c .before .before .before .before .before .lent-fault2 .ensures)))
+    (after-or-else .or-else .ensures
+    ∙ ap₂ orElse (after-lent-fault .lent-fault .ensures) (after-lent-fault2 .lent-fault2 .ensures)))
 
 pub read-fault-spec : {M : Type 1} → statement M
 read-fault-spec =

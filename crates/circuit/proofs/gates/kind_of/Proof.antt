@@ -22,7 +22,9 @@ unfolding kindOf
 returns-3 c = let e : c .before .before .args .kind ≡ 0 = omega arith in rw e
 
 returns-4 : tie.Need-returns-4
-returns-4 c = sym (kind-above (c .before .before .before .args .kind) (omega arith))
+returns-4 c =
+    let start : tie.Start = search in
+    sym (kind-above (start .args .kind) (omega arith))
 
 pub kind-of-spec : {M : Type 1} → statement M
 kind-of-spec = tie.close (tie.spec phase-of-requires returns returns-2 returns-3 returns-4)

@@ -7,19 +7,19 @@ use borrow.Author.Needs.{needs}
 use Rattle.gf2.proofs.Table.{Filled, filled-all, filled-next, filled-none}
 use Rattle.circuit.proofs.Sound.{first-row, length-first}
 use Rattle.circuit.proofs.Steps.{first-entry, tables}
-use Rattle.circuit.specs.Limits.{maxWires, rowBytes}
+use Rattle.circuit.specs.Limits.{maxWires, rowCells}
 use Rattle.circuit.specs.Read.{firstRows, noWeights}
 use Rattle.circuit.proofs.reading.first_tables.Statement.{statement}
 use Rattle.circuit.proofs.reading.first_tables.Tie as tie
 
 abbrev Inv-loop : tie.InvT-loop
-Inv-loop n rows₀ i₀ rows i = (i ≤ rowBytes) × (length rows ≡ rowBytes) × Filled rows (firstRows maxWires n) i
+Inv-loop n rows₀ i₀ rows i = (i ≤ rowCells) × (length rows ≡ rowCells) × Filled rows (firstRows maxWires n) i
 
 abbrev μ-loop : tie.MeasureT-loop
-μ-loop n rows₀ i₀ rows i = rowBytes - i
+μ-loop n rows₀ i₀ rows i = rowCells - i
 
 loop-holds : tie.Need-loop-holds Inv-loop μ-loop
-loop-holds c = (search needs, search needs, filled-none (replicate rowBytes 0) (firstRows maxWires (c .args .n)))
+loop-holds c = (search needs, search needs, filled-none (replicate rowCells 0) (firstRows maxWires (c .args .n)))
 
 first-row-requires : tie.Need-first-row-requires Inv-loop μ-loop
 first-row-requires c κs = search needs

@@ -5,7 +5,7 @@ use native.Mathlib.Omega.{arith}
 use lib.ListN.{length, length-set, take}
 use borrow.Author.Needs.{needs}
 use denote.Ref.{now}
-use Rattle.circuit.specs.Limits.{weightBytes}
+use Rattle.circuit.specs.Limits.{parities}
 use Rattle.circuit.specs.Sound.{weight}
 use Rattle.moves.specs.Sets.{listed}
 use Rattle.finder.proofs.Listing.{gather-next, gather-none}
@@ -31,11 +31,14 @@ shared-slice-read-count : tie.Need-shared-slice-read-count Inv-loop μ-loop
 shared-slice-read-count c = search needs
 
 cast-count : tie.Need-cast-count Inv-loop μ-loop
-cast-count c = omega (arith, c .before .before .before .pre .0 .bits (c .before .before .loop .p))
+cast-count c =
+    let start : tie.Start Inv-loop μ-loop = search in
+    omega (arith, start .pre .0 .bits (c .before .before .loop .p))
 
 add-count : tie.Need-add-count Inv-loop μ-loop
 add-count c =
-    let s = c .before .before .before in
+    let start : tie.Start Inv-loop μ-loop = search in
+    let s = start in
     omega (arith, s .pre .0 .long, s .pre .0 .bits (c .before .before .loop .p))
 
 add-p : tie.Need-add-p Inv-loop μ-loop
@@ -46,8 +49,9 @@ loop-less c = search needs
 
 loop-again : tie.Need-loop-again Inv-loop μ-loop
 loop-again c =
+    let start : tie.Start Inv-loop μ-loop = search in
     let at = c .before .before .loop in
-    let s = c .before .before .before in
+    let s = start in
     let b = s .pre .0 .bits (at .p) in
     (search needs, omega (arith, b), simp length-set (at .inv .2), gather-next (now (s .args .marks)) (at .list) (at .count) (at .p) _ (at .inv .3) (omega (arith, s .pre .0 .long)) refl b)
 
@@ -55,7 +59,7 @@ returns : tie.Need-returns Inv-loop μ-loop
 returns c =
     let at = c .before .loop in
     let s = c .before .before in
-    let e : at .p ≡ weightBytes = omega (arith, s .pre .0 .long) in
+    let e : at .p ≡ parities = omega (arith, s .pre .0 .long) in
     record { fits = omega arith; long = at .inv .2 ∙ s .pre .1; are = rw e at (at .inv .3) }
 
 pub gather-spec : {M : Type 1} → statement M

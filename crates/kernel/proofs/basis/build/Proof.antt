@@ -37,23 +37,31 @@ column-requires c κs = search needs
 
 insert-requires : tie.Need-insert-requires Inv-loop μ-loop
 insert-requires c κs =
-    let at = c .before .before .before .before .before .before .before .before .loop in
-    let a = c .before .before .before .before .before .before .before .before .before .before .args in
-    (built-slots (kappa maxWires (a .z) (a .t)) (Rest (at .i) (now (a .ys)) (a .a) (a .b)) (at .vec) (at .mask) (at .member) (at .inv .1), c .before .before .before .column .ensures .1)
+    let after-column : tie.After-column Inv-loop μ-loop = search in
+    let at-loop : tie.At-loop Inv-loop μ-loop = search in
+    let start : tie.Start Inv-loop μ-loop = search in
+    let at = at-loop .loop in
+    let a = start .args in
+    (built-slots (kappa maxWires (a .z) (a .t)) (Rest (at .i) (now (a .ys)) (a .a) (a .b)) (at .vec) (at .mask) (at .member) (at .inv .1), after-column .column .ensures .1)
 
 loop-less : tie.Need-loop-less Inv-loop μ-loop
 loop-less c = search needs
 
 loop-again : tie.Need-loop-again Inv-loop μ-loop
 loop-again c =
-    let at = c .before .before .before .before .before .before .before .before .before .loop in
-    let a = c .before .before .before .before .before .before .before .before .before .before .before .args in
-    let k = c .before .before .before .before .column in
+    let after-column : tie.After-column Inv-loop μ-loop = search in
+    let then2 : tie.Then2 Inv-loop μ-loop = search in
+    let then1 : tie.Then1 Inv-loop μ-loop = search in
+    let at-loop : tie.At-loop Inv-loop μ-loop = search in
+    let start : tie.Start Inv-loop μ-loop = search in
+    let at = at-loop .loop in
+    let a = start .args in
+    let k = after-column .column in
     let κ = kappa maxWires (a .z) (a .t) in
     let l = c .insert .last .1 .1 in (
       search needs,
       rest-more productBits κ (now (a .ys)) (a .a) (a .b) (at .i) (at .vec) (at .mask) (at .member) (at .inv .1) (l .0) (l .1 .0) (l .1 .1 .0)
-          (c .before .before .before .before .before .before .if1 .taken) (c .before .before .before .before .before .if2 .taken)
+          (then1 .if1 .taken) (then2 .if2 .taken)
           (c .insert .ensures κ (sym (k .ensures .0)) (at .inv .1 .echelon)),
     )
 
@@ -62,8 +70,10 @@ loop-less-2 c = search needs
 
 loop-again-2 : tie.Need-loop-again-2 Inv-loop μ-loop
 loop-again-2 c =
-    let at = c .before .before .before .before .loop in
-    let a = c .before .before .before .before .before .before .args in
+    let at-loop : tie.At-loop Inv-loop μ-loop = search in
+    let start : tie.Start Inv-loop μ-loop = search in
+    let at = at-loop .loop in
+    let a = start .args in
     (search needs, rest-skip productBits (kappa maxWires (a .z) (a .t)) (now (a .ys)) (a .a) (a .b) (at .i) (at .vec) (at .mask) (at .member) (at .inv .1) (inr (c .if2 .left)))
 
 loop-less-3 : tie.Need-loop-less-3 Inv-loop μ-loop
@@ -71,13 +81,16 @@ loop-less-3 c = search needs
 
 loop-again-3 : tie.Need-loop-again-3 Inv-loop μ-loop
 loop-again-3 c =
-    let at = c .before .before .before .loop in
-    let a = c .before .before .before .before .before .args in
+    let at-loop : tie.At-loop Inv-loop μ-loop = search in
+    let start : tie.Start Inv-loop μ-loop = search in
+    let at = at-loop .loop in
+    let a = start .args in
     (search needs, rest-skip productBits (kappa maxWires (a .z) (a .t)) (now (a .ys)) (a .a) (a .b) (at .i) (at .vec) (at .mask) (at .member) (at .inv .1) (inl (c .if1 .left)))
 
 returns : tie.Need-returns Inv-loop μ-loop
 returns c =
-    let e : c .before .loop .i ≡ length (now (c .before .before .before .args .ys)) = omega arith in
+    let start : tie.Start Inv-loop μ-loop = search in
+    let e : c .before .loop .i ≡ length (now (start .args .ys)) = omega arith in
     rw (← e) (c .before .loop .inv .1)
 
 pub build-spec : {M : Type 1} → statement M

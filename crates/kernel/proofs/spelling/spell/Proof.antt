@@ -4,14 +4,14 @@ use Prim.Native.Nat.{_-_, _≤_}
 use native.Mathlib.Omega.{arith}
 use borrow.Author.Needs.{needs}
 use denote.Ref.{now}
-use Rattle.circuit.specs.Limits.{productBits, weightBytes}
+use Rattle.circuit.specs.Limits.{parities, productBits}
 use Rattle.kernel.proofs.Spelled.{Named, spell-named, spell-start, spell-unnamed}
 use Rattle.moves.specs.Pair.{spell}
 use Rattle.kernel.proofs.spelling.spell.Statement.{statement}
 use Rattle.kernel.proofs.spelling.spell.Tie as tie
 
 abbrev Inv-loop : tie.InvT-loop
-Inv-loop m member set₀ s₀ set s = (s ≤ productBits) × (set ≡ spell weightBytes member m s) × Named member m s
+Inv-loop m member set₀ s₀ set s = (s ≤ productBits) × (set ≡ spell parities member m s) × Named member m s
 
 abbrev μ-loop : tie.MeasureT-loop
 μ-loop m member set₀ s₀ set s = productBits - s
@@ -36,10 +36,13 @@ loop-less c = search needs
 
 loop-again : tie.Need-loop-again Inv-loop μ-loop
 loop-again c =
-    let at = c .before .before .before .before .before .loop in
-    let a = c .before .before .before .before .before .before .args in
+    let then1 : tie.Then1 Inv-loop μ-loop = search in
+    let at-loop : tie.At-loop Inv-loop μ-loop = search in
+    let start : tie.Start Inv-loop μ-loop = search in
+    let at = at-loop .loop in
+    let a = start .args in
     let t = c .toggle in
-    let n = spell-named (now (a .member)) (a .m) (at .s) (at .set) (at .inv .1) (at .inv .2) (t .last .0) (c .before .before .before .if1 .taken) (t .ensures .0) (t .ensures .1) in
+    let n = spell-named (now (a .member)) (a .m) (at .s) (at .set) (at .inv .1) (at .inv .2) (t .last .0) (then1 .if1 .taken) (t .ensures .0) (t .ensures .1) in
     (search needs, n .0, n .1)
 
 loop-less-2 : tie.Need-loop-less-2 Inv-loop μ-loop
@@ -47,8 +50,9 @@ loop-less-2 c = search needs
 
 loop-again-2 : tie.Need-loop-again-2 Inv-loop μ-loop
 loop-again-2 c =
+    let start : tie.Start Inv-loop μ-loop = search in
     let at = c .before .before .loop in
-    let a = c .before .before .before .args in
+    let a = start .args in
     let u = spell-unnamed (now (a .member)) (a .m) (at .s) (at .set) (at .inv .1) (at .inv .2) (c .if1 .left) in
     (search needs, u .0, u .1)
 

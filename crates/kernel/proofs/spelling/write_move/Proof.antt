@@ -2,7 +2,7 @@
 use mathlib.Core.Path.{_∙_, sym}
 use borrow.Author.Needs.{needs}
 use denote.Ref.{now}
-use Rattle.kernel.proofs.Spelled.{set-bytes, set-few}
+use Rattle.kernel.proofs.Spelled.{set-cells, set-few}
 use Rattle.kernel.proofs.spelling.write_move.Statement.{statement}
 use Rattle.kernel.proofs.spelling.write_move.Tie as tie
 
@@ -14,13 +14,17 @@ toggle-requires c κs = search needs
 
 slice-aggregate-list : tie.Need-slice-aggregate-list
 slice-aggregate-list c =
-    sym (set-few (now (c .before .before .before .before .before .args .member)) (c .before .before .before .before .before .args .m) (c .before .before .before .before .before .args .a) (c .before .before .before .spell .result) (c .before .toggle .last .0) (c .before .before .before .spell .ensures) (c .before .toggle .ensures .0) (c .before .toggle .ensures .1) .long)
+    let after-spell : tie.After-spell = search in
+    let start : tie.Start = search in
+    sym (set-few (now (start .args .member)) (start .args .m) (start .args .a) (after-spell .spell .result) (c .before .toggle .last .0) (after-spell .spell .ensures) (c .before .toggle .ensures .0) (c .before .toggle .ensures .1) .long)
 
 list-requires : tie.Need-list-requires
 list-requires c κs =
-    set-few (now (c .before .before .before .before .before .args .member)) (c .before .before .before .before .before .args .m)
-    (c .before .before .before .before .before .args .a) (c .before .before .before .spell .result) (c .before .toggle .last .0)
-    (c .before .before .before .spell .ensures) (c .before .toggle .ensures .0) (c .before .toggle .ensures .1)
+    let after-spell : tie.After-spell = search in
+    let start : tie.Start = search in
+    set-few (now (start .args .member)) (start .args .m)
+    (start .args .a) (after-spell .spell .result) (c .before .toggle .last .0)
+    (after-spell .spell .ensures) (c .before .toggle .ensures .0) (c .before .toggle .ensures .1)
 
 slice-aggregate-copy-into : tie.Need-slice-aggregate-copy-into
 slice-aggregate-copy-into c = search needs
@@ -33,10 +37,14 @@ same-length c = search needs
 
 returns : tie.Need-returns
 returns c =
-    let a = c .before .before .before .before .before .before .before .before .before .before .before .args in
-    let s = c .before .before .before .before .before .before .before .before .before .spell in
-    let t = c .before .before .before .before .before .before .before .toggle in
-    c .before .before .copy-into .ensures ∙ c .before .before .before .before .before .list .ensures ∙ set-bytes (now (a .member)) (a .m) (a .a) (s .result)
+    let after-list : tie.After-list = search in
+    let after-toggle : tie.After-toggle = search in
+    let after-spell : tie.After-spell = search in
+    let start : tie.Start = search in
+    let a = start .args in
+    let s = after-spell .spell in
+    let t = after-toggle .toggle in
+    c .before .before .copy-into .ensures ∙ after-list .list .ensures ∙ set-cells (now (a .member)) (a .m) (a .a) (s .result)
     (t .last .0) (s .ensures) (t .ensures .0) (a .z)
 
 pub write-move-spec : {M : Type 1} → statement M

@@ -27,7 +27,8 @@ row-most-requires c κs = search needs
 
 returns : tie.Need-returns Inv-loop μ-loop
 returns c =
-    let at = c .before .before .before .before in
+    let at-loop : tie.At-loop Inv-loop μ-loop = search in
+    let at = at-loop in
     let a = at .before .before .args in
     row-bad (a .n) (at .loop .i) (now (a .rows)) (omega arith) (omega (arith, c .before .row-most .ensures)) ∙ at .loop .inv .1
 
@@ -39,7 +40,8 @@ loop-less c = search needs
 
 loop-again : tie.Need-loop-again Inv-loop μ-loop
 loop-again c =
-    let at = c .before .before .before .before in
+    let at-loop : tie.At-loop Inv-loop μ-loop = search in
+    let at = at-loop in
     let a = at .before .before .args in
     (search needs, row-good (a .n) (at .loop .i) (now (a .rows)) (omega arith) (omega (arith, c .before .row-most .ensures)) ∙ at .loop .inv .1)
 

@@ -34,7 +34,8 @@ pivot-of-requires c κs = search needs
 
 returns : tie.Need-returns Inv-loop μ-loop
 returns c =
-    let at = c .before .before .before in
+    let at-loop : tie.At-loop Inv-loop μ-loop = search in
+    let at = at-loop in
     let b = at .before in
     let a = b .args in
     let h = at .loop .inv .1 in
@@ -42,7 +43,9 @@ returns c =
     (going-stops maxWires (a .n) (b .pre .0) (a .rows) (at .loop .r) (at .loop .masks) (h .0) (omega arith) (h .1) (rw (c .before .pivot-of .ensures) at (c .if1 .taken)))
 
 row-step-requires : tie.Need-row-step-requires Inv-loop μ-loop
-row-step-requires c κs = let at = c .before .before .before in let b = at .before in (omega (arith, b .pre .0), omega (arith, b .pre .0), at .loop .inv .1 .1 .wide)
+row-step-requires c κs =
+    let at-loop : tie.At-loop Inv-loop μ-loop = search in
+    let at = at-loop in let b = at .before in (omega (arith, b .pre .0), omega (arith, b .pre .0), at .loop .inv .1 .1 .wide)
 
 add-r : tie.Need-add-r Inv-loop μ-loop
 add-r c = search needs
@@ -52,11 +55,13 @@ loop-less c = search needs
 
 loop-again : tie.Need-loop-again Inv-loop μ-loop
 loop-again c =
-    let at = c .before .before .before .before .before in
+    let after-pivot-of : tie.After-pivot-of Inv-loop μ-loop = search in
+    let at-loop : tie.At-loop Inv-loop μ-loop = search in
+    let at = at-loop in
     let b = at .before in
     let a = b .args in
     let h = at .loop .inv .1 in
-    let p = c .before .before .before .pivot-of in
+    let p = after-pivot-of .pivot-of in
     let s = c .before .row-step in (
       search needs,
       going-more (a .n) (at .loop .r) (a .rows) (at .loop .masks) (h .0) (s .result .masks) (b .pre .0) (omega arith) (h .1) (p .result) (p .ensures) (omega arith) (s .ensures .2),

@@ -22,22 +22,29 @@ call-fault-requires c κs = search needs
 
 returns : tie.Need-returns
 returns c =
-    let a = c .before .before .before .before .before .before .args in
+    let after-short-fault : tie.After-short-fault = search in
+    let start : tie.Start = search in
+    let a = start .args in
     call-refuses (a .n) (now (a .weights)) (now (a .rows)) (a .gates) (c .before .call-fault .result)
-    (c .before .call-fault .ensures ∙ ap₂ (callFault (a .n)) (c .before .before .before .short-fault .ensures) (c .before .before .weights-fault .ensures)) (omega arith)
+    (c .before .call-fault .ensures ∙ ap₂ (callFault (a .n)) (after-short-fault .short-fault .ensures) (c .before .before .weights-fault .ensures)) (omega arith)
 
 rows-fault-requires : tie.Need-rows-fault-requires
 rows-fault-requires c κs =
-    let a = c .before .before .before .before .before .before .args in
+    let after-short-fault : tie.After-short-fault = search in
+    let start : tie.Start = search in
+    let a = start .args in
     let z : c .before .call-fault .result ≡ 0 = omega arith in
     call-passes (a .n) (shortFault (a .gates) writeBytes) (weightsFault (a .n) (now (a .weights)))
-    (sym (c .before .call-fault .ensures ∙ ap₂ (callFault (a .n)) (c .before .before .before .short-fault .ensures) (c .before .before .weights-fault .ensures)) ∙ z) .1
+    (sym (c .before .call-fault .ensures ∙ ap₂ (callFault (a .n)) (after-short-fault .short-fault .ensures) (c .before .before .weights-fault .ensures)) ∙ z) .1
 
 returns-2 : tie.Need-returns-2
 returns-2 c =
-    let a = c .before .before .before .before .before .before .before .args in
+    let after-weights-fault : tie.After-weights-fault = search in
+    let after-short-fault : tie.After-short-fault = search in
+    let start : tie.Start = search in
+    let a = start .args in
     c .rows-fault .ensures ∙ rows-decide (a .n) (now (a .weights)) (now (a .rows)) (a .gates) (c .before .before .call-fault .result)
-    (c .before .before .call-fault .ensures ∙ ap₂ (callFault (a .n)) (c .before .before .before .before .short-fault .ensures) (c .before .before .before .weights-fault .ensures)) (omega arith)
+    (c .before .before .call-fault .ensures ∙ ap₂ (callFault (a .n)) (after-short-fault .short-fault .ensures) (after-weights-fault .weights-fault .ensures)) (omega arith)
 
 pub write-fault-spec : {M : Type 1} → statement M
 write-fault-spec =

@@ -5,19 +5,19 @@ use native.Mathlib.Omega.{arith}
 use lib.ListN.{getD, length, length-set, replicate}
 use borrow.Author.Needs.{needs}
 use denote.Ref.{now}
-use Rattle.circuit.specs.Limits.{rowBytes}
+use Rattle.circuit.specs.Limits.{rowCells}
 use Rattle.gf2.proofs.Table.{Filled, filled-all, filled-next, filled-none}
 use Rattle.synth.proofs.masks.copied.Statement.{statement}
 use Rattle.synth.proofs.masks.copied.Tie as tie
 
 abbrev Inv-loop : tie.InvT-loop
-Inv-loop rows masks₀ i₀ masks i = (i ≤ rowBytes) × (length masks ≡ rowBytes) × Filled masks rows i
+Inv-loop rows masks₀ i₀ masks i = (i ≤ rowCells) × (length masks ≡ rowCells) × Filled masks rows i
 
 abbrev μ-loop : tie.MeasureT-loop
-μ-loop rows masks₀ i₀ masks i = rowBytes - i
+μ-loop rows masks₀ i₀ masks i = rowCells - i
 
 loop-holds : tie.Need-loop-holds Inv-loop μ-loop
-loop-holds c = (search needs, search needs, filled-none (replicate rowBytes 0) (now (c .args .rows)))
+loop-holds c = (search needs, search needs, filled-none (replicate rowCells 0) (now (c .args .rows)))
 
 shared-slice-read-masks : tie.Need-shared-slice-read-masks Inv-loop μ-loop
 shared-slice-read-masks c = search needs

@@ -5,7 +5,7 @@ use native.Mathlib.Omega.{arith}
 use lib.Bits.{bitXor}
 use lib.ListN.{getD, length, length-set}
 use borrow.Author.Needs.{needs}
-use Rattle.circuit.specs.Limits.{rowBytes}
+use Rattle.circuit.specs.Limits.{rowCells}
 use Rattle.gf2.proofs.Table.{Filled, filled-all, filled-next, filled-none}
 use Rattle.synth.proofs.MaskSteps.{length-recount}
 use Rattle.synth.proofs.RowTurns.{ahead-next, recount-entry}
@@ -14,10 +14,10 @@ use Rattle.synth.proofs.masks.recount_masks.Statement.{statement}
 use Rattle.synth.proofs.masks.recount_masks.Tie as tie
 
 abbrev Inv-loop : tie.InvT-loop
-Inv-loop t q s₀ i₀ s i = (i ≤ rowBytes) × (length s ≡ rowBytes) × Filled s (recount t q s₀) i × ((k : ℕ) → i ≤ k → getD s k 0 ≡ getD s₀ k 0)
+Inv-loop t q s₀ i₀ s i = (i ≤ rowCells) × (length s ≡ rowCells) × Filled s (recount t q s₀) i × ((k : ℕ) → i ≤ k → getD s k 0 ≡ getD s₀ k 0)
 
 abbrev μ-loop : tie.MeasureT-loop
-μ-loop t q s₀ i₀ s i = rowBytes - i
+μ-loop t q s₀ i₀ s i = rowCells - i
 
 loop-holds : tie.Need-loop-holds Inv-loop μ-loop
 loop-holds c = let a = c .args in (search needs, c .pre .1, filled-none (a .masks) (recount (a .t) (a .q) (a .masks)), λ k l. refl)

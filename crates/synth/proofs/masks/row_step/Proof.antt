@@ -33,12 +33,13 @@ recount-masks-requires-2 c κs =
 
 returns : tie.Need-returns
 returns c =
-    let a = c .before .before .before .args in
+    let start : tie.Start = search in
+    let a = start .args in
     let q = c .before .before .lack-of in
     let f = c .before .recount-masks in (
       q .ensures,
-      step-surplus (a .t1) (f .result) (a .r) (a .b) (q .result) (c .before .before .before .pre .0) (q .ensures) (f .ensures),
-      step-masks (a .t1) (f .result) (a .r) (a .b) (q .result) (c .before .before .before .pre .0) (q .ensures) (f .ensures) (c .recount-masks2 .result) (c .recount-masks2 .ensures),
+      step-surplus (a .t1) (f .result) (a .r) (a .b) (q .result) (start .pre .0) (q .ensures) (f .ensures),
+      step-masks (a .t1) (f .result) (a .r) (a .b) (q .result) (start .pre .0) (q .ensures) (f .ensures) (c .recount-masks2 .result) (c .recount-masks2 .ensures),
     )
 
 pub row-step-spec : {M : Type 1} → statement M

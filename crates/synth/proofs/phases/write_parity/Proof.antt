@@ -21,23 +21,29 @@ cast-w c = let a = c .before .before .args in let l = lowest-below (now (a .gate
 
 gather-requires : tie.Need-gather-requires
 gather-requires c κs =
-    let b = c .before .before .before in
+    let start : tie.Start = search in
+    let b = start in
     let a = b .args in
     (b .pre .0, parity-room (now (a .gates)) (a .k) (a .n) (a .p) (a .v) (omega arith) (b .pre .2) (omega arith) (b .pre .3))
 
 spell-out-requires : tie.Need-spell-out-requires
 spell-out-requires c κs =
-    let b = c .before .before .before .before .before .before .before in
+    let after-gather : tie.After-gather = search in
+    let start : tie.Start = search in
+    let b = start in
     let a = b .args in
-    let x = c .before .before .before .gather in
+    let x = after-gather .gather in
     (b .pre .1, spell-room (now (a .gates)) (a .k) (a .n) (a .p) (a .v) (omega arith) (b .pre .2) (omega arith) (b .pre .3) _ (x .result) (x .ensures))
 
 gather-requires-2 : tie.Need-gather-requires-2
 gather-requires-2 c κs =
-    let b = c .before .before .before .before .before .before .before .before .before .before .before in
+    let after-spell-out : tie.After-spell-out = search in
+    let after-gather : tie.After-gather = search in
+    let start : tie.Start = search in
+    let b = start in
     let a = b .args in
-    let x = c .before .before .before .before .before .before .before .gather in
-    let y = c .before .before .before .spell-out in
+    let x = after-gather .gather in
+    let y = after-spell-out .spell-out in
     (b .pre .0, undo-room (now (a .gates)) (a .k) (a .n) (a .p) (a .v) (omega arith) (b .pre .2) (omega arith) (b .pre .3) _ (x .result) (x .ensures) _ (y .result) (y .ensures))
 
 same-length : tie.Need-same-length
@@ -45,13 +51,17 @@ same-length c = search needs
 
 returns-2 : tie.Need-returns-2
 returns-2 c =
-    let b = c .before .before .before .before .before .before .before .before .before .before .before .before .before .before in
+    let after-spell-out : tie.After-spell-out = search in
+    let after-gather : tie.After-gather = search in
+    let else1 : tie.Else1 = search in
+    let start : tie.Start = search in
+    let b = start in
     let a = b .args in
-    let x = c .before .before .before .before .before .before .before .before .before .before .gather in
-    let y = c .before .before .before .before .before .before .spell-out in
+    let x = after-gather .gather in
+    let y = after-spell-out .spell-out in
     let z = c .before .before .gather2 in
     parity-stored (now (a .gates)) (a .k) (a .n) (a .p) (a .v)
-    (omega (arith, c .before .before .before .before .before .before .before .before .before .before .before .before .if1 .left)) (b .pre .2) (omega arith)
+    (omega (arith, else1 .if1 .left)) (b .pre .2) (omega arith)
     (b .pre .3) _ (x .result) (x .ensures) _ (y .result) (y .ensures) _ (z .result) (z .ensures)
 
 pub write-parity-spec : {M : Type 1} → statement M

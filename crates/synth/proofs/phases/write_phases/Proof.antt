@@ -27,15 +27,21 @@ loop-holds : tie.Need-loop-holds Inv-loop μ-loop
 loop-holds c = let a = c .before .before .args in (search needs, shifted 64 (a .n) (omega (arith, c .before .before .pre .0)), phases-first (now (a .gates)) (a .n) (now (a .weights)))
 
 cast-write-parity : tie.Need-cast-write-parity Inv-loop μ-loop
-cast-write-parity c = let b = c .before .before .before .before .before in omega (arith, parities-fit (b .args .n) (b .pre .0))
+cast-write-parity c =
+    let start : tie.Start Inv-loop μ-loop = search in
+    let b = start in omega (arith, parities-fit (b .args .n) (b .pre .0))
 
 shared-slice-read-write-parity : tie.Need-shared-slice-read-write-parity Inv-loop μ-loop
-shared-slice-read-write-parity c = let b = c .before .before .before .before .before .before in omega (arith, parities-fit (b .args .n) (b .pre .0), b .pre .1 .long)
+shared-slice-read-write-parity c =
+    let start : tie.Start Inv-loop μ-loop = search in
+    let b = start in omega (arith, parities-fit (b .args .n) (b .pre .0), b .pre .1 .long)
 
 write-parity-requires : tie.Need-write-parity-requires Inv-loop μ-loop
 write-parity-requires c κs =
-    let at = c .before .before .before in
-    let b = at .before .before .before in
+    let at-loop : tie.At-loop Inv-loop μ-loop = search in
+    let start : tie.Start Inv-loop μ-loop = search in
+    let at = at-loop in
+    let b = start in
     let a = b .args in
     let w = now (a .weights) in (
       b .pre .0,
@@ -52,8 +58,10 @@ loop-less c = search needs
 
 loop-again : tie.Need-loop-again Inv-loop μ-loop
 loop-again c =
-    let at = c .before .before .before .before .before .before in
-    let a = at .before .before .before .args in
+    let at-loop : tie.At-loop Inv-loop μ-loop = search in
+    let start : tie.Start Inv-loop μ-loop = search in
+    let at = at-loop in
+    let a = start .args in
     let u = c .before .before .write-parity in (
       search needs,
       at .loop .inv .1,
@@ -64,7 +72,9 @@ same-length : tie.Need-same-length Inv-loop μ-loop
 same-length c = let at = c .before in stored-same _ _ _ _ _ (at .loop .inv .2)
 
 returns : tie.Need-returns Inv-loop μ-loop
-returns c = let at = c .before in let a = at .before .before .before .args in let e : at .loop .p ≡ 2 ^ (a .n) = omega arith in rw (← e) (at .loop .inv .2)
+returns c =
+    let start : tie.Start Inv-loop μ-loop = search in
+    let at = c .before in let a = start .args in let e : at .loop .p ≡ 2 ^ (a .n) = omega arith in rw (← e) (at .loop .inv .2)
 
 pub write-phases-spec : {M : Type 1} → statement M
 write-phases-spec =

@@ -18,9 +18,11 @@ same-length c = search needs
 
 returns : tie.Need-returns
 returns c =
-    let a = c .before .before .before .before .before .before .before .before .before .args in
-    stored-then (now (a .gates)) _ (a .k) (c .before .before .before .before .before .before .push .result) (gate (a .first) (a .t) 0 ∷ [])
-    (gate (a .second) (a .t) 0 ∷ []) (c .before .before .before .before .before .before .push .ensures) _ _ (c .before .before .push2 .ensures)
+    let after-push : tie.After-push = search in
+    let start : tie.Start = search in
+    let a = start .args in
+    stored-then (now (a .gates)) _ (a .k) (after-push .push .result) (gate (a .first) (a .t) 0 ∷ [])
+    (gate (a .second) (a .t) 0 ∷ []) (after-push .push .ensures) _ _ (c .before .before .push2 .ensures)
 
 pub push-two-spec : {M : Type 1} → statement M
 push-two-spec = tie.close (tie.spec push-requires push-requires-2 same-length returns)

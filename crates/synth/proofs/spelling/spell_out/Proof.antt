@@ -12,80 +12,108 @@ use Rattle.synth.proofs.spelling.spell_out.Tie as tie
 
 push-requires : tie.Need-push-requires
 unfolding spell spelling
-push-requires c κs = let e : c .before .before .before .args .v ≡ 1 = omega arith in rw e at (c .before .before .before .pre .1)
+push-requires c κs =
+    let start : tie.Start = search in
+    let e : start .args .v ≡ 1 = omega arith in rw e at (start .pre .1)
 
 push-requires-2 : tie.Need-push-requires-2
 unfolding spell spelling
-push-requires-2 c κs = let e : c .before .before .before .args .v ≡ 2 = omega arith in rw e at (c .before .before .before .pre .1)
+push-requires-2 c κs =
+    let start : tie.Start = search in
+    let e : start .args .v ≡ 2 = omega arith in rw e at (start .pre .1)
 
 push-two-requires : tie.Need-push-two-requires
 unfolding spell spelling
-push-two-requires c κs = let e : c .before .before .before .args .v ≡ 3 = omega arith in rw e at (c .before .before .before .pre .1)
+push-two-requires c κs =
+    let start : tie.Start = search in
+    let e : start .args .v ≡ 3 = omega arith in rw e at (start .pre .1)
 
 push-requires-3 : tie.Need-push-requires-3
 unfolding spell spelling
-push-requires-3 c κs = let e : c .before .before .before .args .v ≡ 4 = omega arith in rw e at (c .before .before .before .pre .1)
+push-requires-3 c κs =
+    let start : tie.Start = search in
+    let e : start .args .v ≡ 4 = omega arith in rw e at (start .pre .1)
 
 push-two-requires-2 : tie.Need-push-two-requires-2
 unfolding spell spelling
-push-two-requires-2 c κs = let e : c .before .before .before .args .v ≡ 5 = omega arith in rw e at (c .before .before .before .pre .1)
+push-two-requires-2 c κs =
+    let start : tie.Start = search in
+    let e : start .args .v ≡ 5 = omega arith in rw e at (start .pre .1)
 
 push-requires-4 : tie.Need-push-requires-4
 unfolding spell spelling
-push-requires-4 c κs = let e : c .before .before .before .args .v ≡ 6 = omega arith in rw e at (c .before .before .before .pre .1)
+push-requires-4 c κs =
+    let start : tie.Start = search in
+    let e : start .args .v ≡ 6 = omega arith in rw e at (start .pre .1)
 
 push-requires-5 : tie.Need-push-requires-5
 unfolding spell spelling
-push-requires-5 c κs = let e : c .before .before .before .args .v ≡ 7 = omega arith in rw e at (c .before .before .before .pre .1)
+push-requires-5 c κs =
+    let start : tie.Start = search in
+    let e : start .args .v ≡ 7 = omega arith in rw e at (start .pre .1)
 
 same-length : tie.Need-same-length
 same-length c = search needs
 
 returns : tie.Need-returns
 unfolding spell spelling
-returns c = let e : c .before .before .before .before .before .before .args .v ≡ 1 = omega arith in rw e (c .before .before .push .ensures)
+returns c =
+    let start : tie.Start = search in
+    let e : start .args .v ≡ 1 = omega arith in rw e (c .before .before .push .ensures)
 
 same-length-2 : tie.Need-same-length-2
 same-length-2 c = search needs
 
 returns-2 : tie.Need-returns-2
 unfolding spell spelling
-returns-2 c = let e : c .before .before .before .before .before .before .args .v ≡ 2 = omega arith in rw e (c .before .before .push2 .ensures)
+returns-2 c =
+    let start : tie.Start = search in
+    let e : start .args .v ≡ 2 = omega arith in rw e (c .before .before .push2 .ensures)
 
 same-length-3 : tie.Need-same-length-3
 same-length-3 c = search needs
 
 returns-3 : tie.Need-returns-3
 unfolding spell spelling
-returns-3 c = let e : c .before .before .before .before .before .before .args .v ≡ 3 = omega arith in rw e (c .before .before .push-two .ensures)
+returns-3 c =
+    let start : tie.Start = search in
+    let e : start .args .v ≡ 3 = omega arith in rw e (c .before .before .push-two .ensures)
 
 same-length-4 : tie.Need-same-length-4
 same-length-4 c = search needs
 
 returns-4 : tie.Need-returns-4
 unfolding spell spelling
-returns-4 c = let e : c .before .before .before .before .before .before .args .v ≡ 4 = omega arith in rw e (c .before .before .push3 .ensures)
+returns-4 c =
+    let start : tie.Start = search in
+    let e : start .args .v ≡ 4 = omega arith in rw e (c .before .before .push3 .ensures)
 
 same-length-5 : tie.Need-same-length-5
 same-length-5 c = search needs
 
 returns-5 : tie.Need-returns-5
 unfolding spell spelling
-returns-5 c = let e : c .before .before .before .before .before .before .args .v ≡ 5 = omega arith in rw e (c .before .before .push-two2 .ensures)
+returns-5 c =
+    let start : tie.Start = search in
+    let e : start .args .v ≡ 5 = omega arith in rw e (c .before .before .push-two2 .ensures)
 
 same-length-6 : tie.Need-same-length-6
 same-length-6 c = search needs
 
 returns-6 : tie.Need-returns-6
 unfolding spell spelling
-returns-6 c = let e : c .before .before .before .before .before .before .args .v ≡ 6 = omega arith in rw e (c .before .before .push4 .ensures)
+returns-6 c =
+    let start : tie.Start = search in
+    let e : start .args .v ≡ 6 = omega arith in rw e (c .before .before .push4 .ensures)
 
 same-length-7 : tie.Need-same-length-7
 same-length-7 c = search needs
 
 returns-7 : tie.Need-returns-7
 unfolding spell spelling
-returns-7 c = let e : c .before .before .before .before .before .before .args .v ≡ 7 = omega arith in rw e (c .before .before .push5 .ensures)
+returns-7 c =
+    let start : tie.Start = search in
+    let e : start .args .v ≡ 7 = omega arith in rw e (c .before .before .push5 .ensures)
 
 returns-8 : tie.Need-returns-8
 unfolding spell spelling

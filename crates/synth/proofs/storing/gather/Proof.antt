@@ -44,7 +44,8 @@ loop-less c = search needs
 
 loop-again : tie.Need-loop-again Inv-loop μ-loop
 loop-again c =
-    let at = c .before .before .before .before .before in
+    let at-loop : tie.At-loop Inv-loop μ-loop = search in
+    let at = at-loop in
     let a = at .before .before .args in
     let u = c .before .before .cnot-if in
     (search needs, cnots-turn (now (a .gates)) (at .loop .gates) (a .k) (at .loop .j) (a .q) (a .t) (at .loop .i) _ refl (at .loop .inv .1) _ (u .result) (u .ensures))

@@ -9,16 +9,22 @@ returns : tie.Need-returns
 returns c = sym (decimal (c .before .before .args .b) (omega arith) (omega arith) .digit)
 
 returns-2 : tie.Need-returns-2
-returns-2 c = sym (letter (c .before .before .before .before .args .b) (omega arith) (omega arith) .digit)
+returns-2 c =
+    let start : tie.Start = search in
+    sym (letter (start .args .b) (omega arith) (omega arith) .digit)
 
 returns-3 : tie.Need-returns-3
 returns-3 c = sym (below (c .before .args .b) (omega arith) .digit)
 
 returns-4 : tie.Need-returns-4
-returns-4 c = sym (between (c .before .before .before .args .b) (omega arith) (omega arith) .digit)
+returns-4 c =
+    let start : tie.Start = search in
+    sym (between (start .args .b) (omega arith) (omega arith) .digit)
 
 returns-5 : tie.Need-returns-5
-returns-5 c = sym (above (c .before .before .before .before .args .b) (omega arith) .digit)
+returns-5 c =
+    let start : tie.Start = search in
+    sym (above (start .args .b) (omega arith) .digit)
 
 pub is-digit-spec : {M : Type 1} → statement M
 is-digit-spec = tie.close (tie.spec returns returns-2 returns-3 returns-4 returns-5)

@@ -22,10 +22,13 @@ same-length c = search needs
 
 returns : tie.Need-returns
 returns c =
+    let after-put-number3 : tie.After-put-number3 = search in
+    let after-put-number2 : tie.After-put-number2 = search in
+    let after-put-number : tie.After-put-number = search in
     let z = c .before .before in
-    let y = z .before .before .before .before in
-    let x = y .before .before .before .before in
-    let w = x .before .before .before .before in
+    let y = after-put-number3 in
+    let x = after-put-number2 in
+    let w = after-put-number in
     let first = writes-then (w .put-number .ensures) (x .put-number2 .ensures) (omega arith) in
     writes-then (writes-then first (y .put-number3 .ensures) (omega arith)) (z .put-number4 .ensures) (omega arith)
 

@@ -22,10 +22,13 @@ same-length c = search needs
 
 returns : tie.Need-returns
 returns c =
+    let after-put-two3 : tie.After-put-two3 = search in
+    let after-put-two2 : tie.After-put-two2 = search in
+    let after-put-two : tie.After-put-two = search in
     let z = c .before .before in
-    let y = z .before .before .before .before in
-    let x = y .before .before .before .before in
-    let w = x .before .before .before .before in
+    let y = after-put-two3 in
+    let x = after-put-two2 in
+    let w = after-put-two in
     let first = writes-then (w .put-two .ensures) (x .put-two2 .ensures) (omega arith) in
     writes-then (writes-then first (y .put-two3 .ensures) (omega arith)) (z .put-byte .ensures) (omega arith)
 

@@ -62,8 +62,10 @@ loop-less c = search needs
 
 loop-again : tie.Need-loop-again Inv-loop μ-loop
 loop-again c =
-    let at = c .before .before .before .before .before .before .before .before in
-    let a = at .before .before .before .args in
+    let at-loop : tie.At-loop Inv-loop μ-loop = search in
+    let start : tie.Start Inv-loop μ-loop = search in
+    let at = at-loop in
+    let a = start .args in
     let g = now (a .gates) in
     let i = at .loop .i in
     let w = c .before .before .put-gate .ensures in (
@@ -80,8 +82,9 @@ same-length c = c .before .loop .inv .2
 
 returns : tie.Need-returns Inv-loop μ-loop
 returns c =
+    let start : tie.Start Inv-loop μ-loop = search in
     let at = c .before in
-    let a = at .before .before .before .args in
+    let a = start .args in
     gates-put (now (a .gates)) (at .loop .i) (now (a .out)) (at .loop .out) (a .at) (at .loop .next) (omega arith) (omega arith) (at .loop .inv .4) (at .loop .inv .5)
 
 pub put-gates-spec : {M : Type 1} → statement M

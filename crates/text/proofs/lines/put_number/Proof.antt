@@ -19,9 +19,11 @@ same-length c = search needs
 
 returns : tie.Need-returns
 returns c =
+    let after-put-two2 : tie.After-put-two2 = search in
+    let after-put-two : tie.After-put-two = search in
     let z = c .before .before in
-    let y = z .before .before .before .before in
-    let x = y .before .before .before .before in
+    let y = after-put-two2 in
+    let x = after-put-two in
     writes-then (writes-then (x .put-two .ensures) (y .put-two2 .ensures) (omega arith)) (z .put-byte .ensures) (omega arith)
 
 pub put-number-spec : {M : Type 1} → statement M

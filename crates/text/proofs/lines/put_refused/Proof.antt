@@ -25,10 +25,13 @@ same-length c = search needs
 
 returns : tie.Need-returns
 returns c =
+    let after-put-byte : tie.After-put-byte = search in
+    let after-put-two : tie.After-put-two = search in
+    let after-put : tie.After-put = search in
     let z = c .before .before in
-    let y = z .before .before .before .before in
-    let x = y .before .before .before .before in
-    let w = x .before .before .before .before in
+    let y = after-put-byte in
+    let x = after-put-two in
+    let w = after-put in
     let first = writes-then (w .put .ensures) (x .put-two .ensures) (omega arith) in
     writes-then (writes-then first (y .put-byte .ensures) (omega arith)) (z .put-number .ensures) (omega arith)
 

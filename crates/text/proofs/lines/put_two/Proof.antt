@@ -30,7 +30,8 @@ same-length c = search needs
 
 returns : tie.Need-returns
 returns c =
-    let a = c .before .before .before .args in
+    let start : tie.Start = search in
+    let a = start .args in
     two-written (now (a .out)) (a .at) _ _ _ _ (omega arith) (c .before .last-digit .ensures) (c .last-digit2 .ensures)
 
 pub put-two-spec : {M : Type 1} → statement M

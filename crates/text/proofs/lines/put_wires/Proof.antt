@@ -16,8 +16,9 @@ same-length c = search needs
 
 returns : tie.Need-returns
 returns c =
+    let after-put-two : tie.After-put-two = search in
     let y = c .before .before in
-    let x = y .before .before .before .before in
+    let x = after-put-two in
     writes-then (x .put-two .ensures) (y .put-byte .ensures) (omega arith)
 
 pub put-wires-spec : {M : Type 1} → statement M

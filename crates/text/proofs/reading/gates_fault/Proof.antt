@@ -38,7 +38,8 @@ add-t7 c = search needs
 
 returns-2 : tie.Need-returns-2 Inv-loop μ-loop
 returns-2 c =
-    let at = c .before .before .before .before in
+    let at-loop : tie.At-loop Inv-loop μ-loop = search in
+    let at = at-loop in
     let t = now (at .before .before .args .text) in
     let p = at .loop .at in
     let i = at .loop .i in
@@ -47,20 +48,25 @@ returns-2 c =
 
 add-at : tie.Need-add-at Inv-loop μ-loop
 add-at c =
+    let at-loop : tie.At-loop Inv-loop μ-loop = search in
+    let start : tie.Start Inv-loop μ-loop = search in
     let e = sym (c .before .line-formed .ensures) ∙ not-false _ (c .if2 .left) in
-    omega (arith, formed-long (now (c .before .before .before .before .before .before .args .text)) (c .before .before .before .before .loop .at) gateDigits e)
+    omega (arith, formed-long (now (start .args .text)) (at-loop .loop .at) gateDigits e)
 
 add-i : tie.Need-add-i Inv-loop μ-loop
 add-i c = search needs
 
 loop-less : tie.Need-loop-less Inv-loop μ-loop
 loop-less c =
+    let at-loop : tie.At-loop Inv-loop μ-loop = search in
+    let start : tie.Start Inv-loop μ-loop = search in
     let e = sym (c .before .line-formed .ensures) ∙ not-false _ (c .if2 .left) in
-    omega (arith, formed-long (now (c .before .before .before .before .before .before .args .text)) (c .before .before .before .before .loop .at) gateDigits e)
+    omega (arith, formed-long (now (start .args .text)) (at-loop .loop .at) gateDigits e)
 
 loop-again : tie.Need-loop-again Inv-loop μ-loop
 loop-again c =
-    let at = c .before .before .before .before in
+    let at-loop : tie.At-loop Inv-loop μ-loop = search in
+    let at = at-loop in
     let t = now (at .before .before .args .text) in
     let p = at .loop .at in
     let i = at .loop .i in

@@ -37,8 +37,10 @@ is-digit-requires c κs = search needs
 
 returns-2 : tie.Need-returns-2 Inv-loop μ-loop
 returns-2 c =
-    let at = c .before .before .before .before in
-    let a = at .before .before .before .args in
+    let at-loop : tie.At-loop Inv-loop μ-loop = search in
+    let start : tie.Start Inv-loop μ-loop = search in
+    let at = at-loop in
+    let a = start .args in
     let e = sym (c .before .is-digit .ensures) ∙ not-true _ (c .if2 .taken) in
     digit-wrong (now (a .text)) (a .at) (at .loop .j) (omega arith) (a .digits) (omega arith) e ∙ at .loop .inv .2
 
@@ -50,8 +52,10 @@ loop-less c = search needs
 
 loop-again : tie.Need-loop-again Inv-loop μ-loop
 loop-again c =
-    let at = c .before .before .before .before in
-    let a = at .before .before .before .args in
+    let at-loop : tie.At-loop Inv-loop μ-loop = search in
+    let start : tie.Start Inv-loop μ-loop = search in
+    let at = at-loop in
+    let a = start .args in
     let e = sym (c .before .is-digit .ensures) ∙ not-false _ (c .if2 .left) in (
       search needs,
       search needs,
@@ -66,8 +70,9 @@ shared-slice-read-result c = search needs
 
 returns-3 : tie.Need-returns-3 Inv-loop μ-loop
 returns-3 c =
+    let start : tie.Start Inv-loop μ-loop = search in
     let at = c .before .before in
-    let a = at .before .before .before .args in
+    let a = start .args in
     digits-end (now (a .text)) (a .at) (a .digits) (at .loop .j) (omega arith) (omega arith) ∙ at .loop .inv .2
 
 pub line-formed-spec : {M : Type 1} → statement M

@@ -42,7 +42,8 @@ same-length c = search needs
 
 returns : tie.Need-returns
 returns c =
-    let a = c .before .before .before .before .before .args in
+    let start : tie.Start = search in
+    let a = start .args in
     three-stored (now (a .gates)) (a .j) _ _ _ _ _ _ (c .before .before .byte-at .ensures) (c .before .byte-at2 .ensures) (c .byte-at3 .ensures)
 
 pub store-gate-spec : {M : Type 1} → statement M

@@ -34,8 +34,9 @@ mul-store-gate c = search needs
 
 store-gate-requires : tie.Need-store-gate-requires Inv-loop μ-loop
 store-gate-requires c κs =
+    let start : tie.Start Inv-loop μ-loop = search in
     let at = c .before .before in
-    let a = at .before .before .before .args in
+    let a = start .args in
     let e = done-formed (now (a .text)) (at .loop .at) (at .loop .i) (omega arith) (at .loop .inv .2) in
     (formed-long (now (a .text)) (at .loop .at) gateDigits e, omega (arith, done-few (now (a .text)) (at .loop .at) (at .loop .i) (omega arith) (at .loop .inv .2)))
 
@@ -50,8 +51,10 @@ loop-less c = search needs
 
 loop-again : tie.Need-loop-again Inv-loop μ-loop
 loop-again c =
-    let at = c .before .before .before .before .before in
-    let a = at .before .before .before .args in
+    let at-loop : tie.At-loop Inv-loop μ-loop = search in
+    let start : tie.Start Inv-loop μ-loop = search in
+    let at = at-loop in
+    let a = start .args in
     let t = now (a .text) in
     let p = at .loop .at in
     let i = at .loop .i in
@@ -69,11 +72,12 @@ same-length c = c .before .loop .inv .0
 
 returns : tie.Need-returns Inv-loop μ-loop
 returns c =
+    let start : tie.Start Inv-loop μ-loop = search in
     let at = c .before in
-    let a = at .before .before .before .args in
+    let a = start .args in
     let t = now (a .text) in
     all-stored t (at .loop .at) (omega arith) (at .loop .i) (now (a .gates)) (at .loop .gates) (bytesFrom t wiresLineBytes)
-    (at .loop .inv .1) (at .before .before .before .pre .0) (at .loop .inv .3) (at .loop .inv .4)
+    (at .loop .inv .1) (start .pre .0) (at .loop .inv .3) (at .loop .inv .4)
 
 pub store-gates-spec : {M : Type 1} → statement M
 store-gates-spec =

@@ -31,27 +31,34 @@ wires-fault-requires c κs = search needs
 
 returns-2 : tie.Need-returns-2
 returns-2 c =
-    let l = c .before .before .before .before in
+    let else1 : tie.Else1 = search in
+    let after-line-formed : tie.After-line-formed = search in
+    let l = after-line-formed in
     let t = now (l .before .before .args .text) in
-    let e = sym (l .line-formed .ensures) ∙ not-false _ (c .before .before .before .if1 .left) in
+    let e = sym (l .line-formed .ensures) ∙ not-false _ (else1 .if1 .left) in
     let f = c .before .wires-fault in
     let v = c .before .before .byte-at in
     count-refused t e (f .result) (v .result) (f .ensures) (v .ensures) (omega arith)
 
 gates-fault-requires : tie.Need-gates-fault-requires
 gates-fault-requires c κs =
-    let l = c .before .before .before .before in
+    let else1 : tie.Else1 = search in
+    let after-line-formed : tie.After-line-formed = search in
+    let l = after-line-formed in
     let t = now (l .before .before .args .text) in
-    let e = sym (l .line-formed .ensures) ∙ not-false _ (c .before .before .before .if1 .left) in
+    let e = sym (l .line-formed .ensures) ∙ not-false _ (else1 .if1 .left) in
     omega (arith, one-long t e)
 
 returns-3 : tie.Need-returns-3
 returns-3 c =
-    let l = c .before .before .before .before .before in
+    let after-byte-at : tie.After-byte-at = search in
+    let else1 : tie.Else1 = search in
+    let after-line-formed : tie.After-line-formed = search in
+    let l = after-line-formed in
     let t = now (l .before .before .args .text) in
-    let e = sym (l .line-formed .ensures) ∙ not-false _ (c .before .before .before .before .if1 .left) in
+    let e = sym (l .line-formed .ensures) ∙ not-false _ (else1 .if1 .left) in
     let f = c .before .before .wires-fault in
-    let v = c .before .before .before .byte-at in
+    let v = after-byte-at .byte-at in
     c .gates-fault .ensures ∙ count-passed t e (f .result) (v .result) (f .ensures) (v .ensures) (omega arith)
 
 pub text-fault-spec : {M : Type 1} → statement M

@@ -5,7 +5,7 @@ use native.Mathlib.Omega.{arith}
 use lib.ListN.{getD}
 use borrow.Author.Needs.{needs}
 use denote.Ref.{now}
-use Rattle.circuit.specs.Limits.{weightBytes}
+use Rattle.circuit.specs.Limits.{parities}
 use Rattle.gf2.specs.Sum.{sum}
 use Rattle.phase.proofs.Lists.{wide}
 use Rattle.trimmer.proofs.Counted.{members-end, members-next}
@@ -13,10 +13,10 @@ use Rattle.trimmer.proofs.counting.members_of.Statement.{statement}
 use Rattle.trimmer.proofs.counting.members_of.Tie as tie
 
 abbrev Inv-loop : tie.InvT-loop
-Inv-loop marks count₀ p₀ count p = (p ≤ weightBytes) × (count ≤ 256 * p) × (count ≡ sum p (λ p. getD marks p 0))
+Inv-loop marks count₀ p₀ count p = (p ≤ parities) × (count ≤ 256 * p) × (count ≡ sum p (λ p. getD marks p 0))
 
 abbrev μ-loop : tie.MeasureT-loop
-μ-loop marks count₀ p₀ count p = weightBytes - p
+μ-loop marks count₀ p₀ count p = parities - p
 
 loop-holds : tie.Need-loop-holds Inv-loop μ-loop
 unfolding sum
@@ -39,7 +39,8 @@ loop-less c = search needs
 
 loop-again : tie.Need-loop-again Inv-loop μ-loop
 loop-again c =
-    let at = c .before .before .before in
+    let at-loop : tie.At-loop Inv-loop μ-loop = search in
+    let at = at-loop in
     let m = now (at .before .args .marks) in
     (search needs, omega (arith, c .wide .ensures .0, c .wide .ensures .1), members-next m (at .loop .p) (at .loop .count) (c .wide .result) (at .loop .inv .2) (c .wide .ensures .0))
 

@@ -41,7 +41,8 @@ loop-less c = search needs
 
 loop-again : tie.Need-loop-again Inv-loop μ-loop
 loop-again c =
-    let at = c .before .before .before in
+    let at-loop : tie.At-loop Inv-loop μ-loop = search in
+    let at = at-loop in
     let g = now (at .before .before .args .gates) in
     let i = at .loop .i in
     let t = c .is-t .ensures in

@@ -30,9 +30,13 @@ or-else-requires-3 c κs = search needs
 returns : tie.Need-returns
 unfolding trimFault
 returns c =
+    let after-wires-fault : tie.After-wires-fault = search in
+    let after-or-else : tie.After-or-else = search in
+    let after-short-fault2 : tie.After-short-fault2 = search in
+    let after-short-fault : tie.After-short-fault = search in
     c .or-else3 .ensures
-    ∙ ap₂ orElse (c .before .before .before .wires-fault .ensures)
-    (c .before .or-else2 .ensures ∙ ap₂ orElse (c .before .before .list-fault .ensures) (c .before .before .before .before .or-else .ensures ∙ ap₂ orElse (c .before .before .before .before .before .before .short-fault .ensures) (c .before .before .before .before .before .short-fault2 .ensures)))
+    ∙ ap₂ orElse (after-wires-fault .wires-fault .ensures)
+    (c .before .or-else2 .ensures ∙ ap₂ orElse (c .before .before .list-fault .ensures) (after-or-else .or-else .ensures ∙ ap₂ orElse (after-short-fault .short-fault .ensures) (after-short-fault2 .short-fault2 .ensures)))
 
 pub trim-fault-spec : {M : Type 1} → statement M
 trim-fault-spec =

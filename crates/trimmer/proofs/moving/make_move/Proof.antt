@@ -9,9 +9,10 @@ moved-requires c κs = let p = c .before .before .pre in (p .0, p .1, p .2, p .3
 
 next-move-requires : tie.Need-next-move-requires
 next-move-requires c κs =
-    let p = c .before .before .before .pre in
-    let s = c .before .before .before .args .s in
-    (p .0, p .1, moved-sound _ (p .1) (s .marks) (s .forty) _ (p .2) (p .3 .some-move (p .4)) (c .moved .ensures))
+    let start : tie.Start = search in
+    let p = start .pre in
+    let s = start .args .s in
+    (p .0, p .1, moved-sound _ (p .1) (s .marks) (s .cells) _ (p .2) (p .3 .some-move (p .4)) (c .moved .ensures))
 
 add-t8 : tie.Need-add-t8
 add-t8 c = search needs

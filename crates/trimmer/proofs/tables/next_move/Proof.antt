@@ -25,14 +25,18 @@ enum-told-2 c = search needs
 
 returns : tie.Need-returns
 returns c =
-    let p = c .before .before .before .before .before .before .pre in
-    let s = c .before .before .before .search in
+    let after-search : tie.After-search = search in
+    let start : tie.Start = search in
+    let p = start .pre in
+    let s = after-search .search in
     found-next _ (p .1) _ (p .2) (s .last .1 .0) (rw (c .enum-told .given .1) at (s .ensures))
 
 returns-2 : tie.Need-returns-2
 returns-2 c =
-    let p = c .before .before .before .before .before .before .pre in
-    let s = c .before .before .before .search in
+    let after-search : tie.After-search = search in
+    let start : tie.Start = search in
+    let p = start .pre in
+    let s = after-search .search in
     nothing-next _ (p .1) _ (p .2) (s .last .1 .0) ((rw (c .enum-told2 .given .1) at (s .ensures)) .1)
 
 pub next-move-spec : {M : Type 1} → statement M

@@ -18,10 +18,14 @@ shl-if3 : tie.Need-shl-if3
 shl-if3 c = search needs
 
 returns-3 : tie.Need-returns-3
-returns-3 c = let a = c .before .before .before .args in most-inside (a .n) (a .most) (a .p) (c .before .before .if1 .left) (omega (arith, shifted 64 (a .n) (omega arith)))
+returns-3 c =
+    let start : tie.Start = search in
+    let a = start .args in most-inside (a .n) (a .most) (a .p) (c .before .before .if1 .left) (omega (arith, shifted 64 (a .n) (omega arith)))
 
 returns-4 : tie.Need-returns-4
-returns-4 c = let a = c .before .before .before .args in most-beyond (a .n) (a .most) (a .p) (c .before .before .if1 .left) (omega (arith, shifted 64 (a .n) (omega arith)))
+returns-4 c =
+    let start : tie.Start = search in
+    let a = start .args in most-beyond (a .n) (a .most) (a .p) (c .before .before .if1 .left) (omega (arith, shifted 64 (a .n) (omega arith)))
 
 pub most-at-spec : {M : Type 1} → statement M
 most-at-spec = tie.close (tie.spec returns returns-2 shl-if3 returns-3 returns-4)

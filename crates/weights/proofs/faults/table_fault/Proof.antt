@@ -5,20 +5,20 @@ use native.Mathlib.Omega.{arith}
 use lib.ListN.{drop, length}
 use borrow.Author.Needs.{needs}
 use denote.Ref.{now}
-use Rattle.circuit.specs.Limits.{weightBytes}
+use Rattle.circuit.specs.Limits.{parities, tableBytes}
 use Rattle.weights.proofs.TableRule.{fault-after, fault-at, long-table, none-left, other-length}
 use Rattle.weights.specs.Faults.{bytesFault}
 use Rattle.weights.proofs.faults.table_fault.Statement.{statement}
 use Rattle.weights.proofs.faults.table_fault.Tie as tie
 
 abbrev Inv-loop : tie.InvT-loop
-Inv-loop n most table p₀ p = (p ≤ length table) × (length table ≡ weightBytes) × (bytesFault n most p (drop p table) ≡ bytesFault n most 0 table)
+Inv-loop n most table p₀ p = (p ≤ length table) × (length table ≡ tableBytes) × (bytesFault n most p (drop p table) ≡ bytesFault n most 0 table)
 
 abbrev μ-loop : tie.MeasureT-loop
 μ-loop n most table p₀ p = length table - p
 
 returns : tie.Need-returns Inv-loop μ-loop
-returns c = let a = c .before .before .args in other-length weightBytes (a .n) (a .most) (now (a .table)) (omega arith)
+returns c = let a = c .before .before .args in other-length parities (a .n) (a .most) (now (a .table)) (omega arith)
 
 loop-holds : tie.Need-loop-holds Inv-loop μ-loop
 loop-holds c = search needs
@@ -31,11 +31,13 @@ byte-fault-requires c κs = search needs
 
 returns-2 : tie.Need-returns-2 Inv-loop μ-loop
 returns-2 c =
-    let at = c .before .before .before .before in
-    let a = at .before .before .before .args in
+    let at-loop : tie.At-loop Inv-loop μ-loop = search in
+    let start : tie.Start Inv-loop μ-loop = search in
+    let at = at-loop in
+    let a = start .args in
     let f = c .before .byte-fault in
     fault-at (a .n) (a .most) (now (a .table)) (at .loop .p) (omega arith) (f .result) (f .ensures) (omega arith)
-    ∙ at .loop .inv .2 ∙ long-table weightBytes (a .n) (a .most) (now (a .table)) (at .loop .inv .1)
+    ∙ at .loop .inv .2 ∙ long-table parities (a .n) (a .most) (now (a .table)) (at .loop .inv .1)
 
 add-p : tie.Need-add-p Inv-loop μ-loop
 add-p c = search needs
@@ -45,17 +47,20 @@ loop-less c = search needs
 
 loop-again : tie.Need-loop-again Inv-loop μ-loop
 loop-again c =
-    let at = c .before .before .before .before in
-    let a = at .before .before .before .args in
+    let at-loop : tie.At-loop Inv-loop μ-loop = search in
+    let start : tie.Start Inv-loop μ-loop = search in
+    let at = at-loop in
+    let a = start .args in
     let f = c .before .byte-fault in
     (search needs, search needs, fault-after (a .n) (a .most) (now (a .table)) (at .loop .p) (omega arith) (f .result) (f .ensures) (omega arith) ∙ at .loop .inv .2)
 
 returns-3 : tie.Need-returns-3 Inv-loop μ-loop
 returns-3 c =
+    let start : tie.Start Inv-loop μ-loop = search in
     let at = c .before in
-    let a = at .before .before .before .args in
+    let a = start .args in
     none-left (a .n) (a .most) (now (a .table)) (at .loop .p) (omega arith)
-    ∙ at .loop .inv .2 ∙ long-table weightBytes (a .n) (a .most) (now (a .table)) (at .loop .inv .1)
+    ∙ at .loop .inv .2 ∙ long-table parities (a .n) (a .most) (now (a .table)) (at .loop .inv .1)
 
 pub table-fault-spec : {M : Type 1} → statement M
 table-fault-spec =

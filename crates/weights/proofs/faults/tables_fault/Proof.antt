@@ -22,8 +22,10 @@ or-else-requires-2 c κs = search needs
 
 returns : tie.Need-returns
 returns c =
+    let after-lent-fault2 : tie.After-lent-fault2 = search in
+    let after-lent-fault : tie.After-lent-fault = search in
     c .or-else2 .ensures ∙ ap₂ orElse (c .before .lent-fault3 .ensures)
-    (c .before .before .or-else .ensures ∙ ap₂ orElse (c .before .before .before .before .lent-fault .ensures) (c .before .before .before .lent-fault2 .ensures))
+    (c .before .before .or-else .ensures ∙ ap₂ orElse (after-lent-fault .lent-fault .ensures) (after-lent-fault2 .lent-fault2 .ensures))
 
 pub tables-fault-spec : {M : Type 1} → statement M
 tables-fault-spec =

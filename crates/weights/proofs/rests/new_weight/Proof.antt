@@ -12,7 +12,9 @@ shl-if1 : tie.Need-shl-if1
 shl-if1 c = search needs
 
 returns : tie.Need-returns
-returns c = let a = c .before .before .before .args in weight-above maxWires (a .n) (now (a .one)) (now (a .q)) (a .mark) (a .p) (omega (arith, shifted 64 (a .n) (omega arith)))
+returns c =
+    let start : tie.Start = search in
+    let a = start .args in weight-above maxWires (a .n) (now (a .one)) (now (a .q)) (a .mark) (a .p) (omega (arith, shifted 64 (a .n) (omega arith)))
 
 cast-rest-in : tie.Need-cast-rest-in
 cast-rest-in c = search needs
@@ -28,7 +30,8 @@ cast-result c = search needs
 
 returns-2 : tie.Need-returns-2
 returns-2 c =
-    let a = c .before .before .before .before .args in
+    let start : tie.Start = search in
+    let a = start .args in
     weight-below maxWires (a .n) (now (a .one)) (now (a .q)) (a .mark) (a .p) (c .rest-in .result) (omega (arith, shifted 64 (a .n) (omega arith)))
     (c .rest-in .ensures .0)
 

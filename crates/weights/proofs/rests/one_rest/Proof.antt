@@ -26,7 +26,8 @@ cast-result-2 c = search needs
 
 returns : tie.Need-returns
 returns c =
-    let a = c .before .before .before .before .args in
+    let start : tie.Start = search in
+    let a = start .args in
     one-end maxWires (a .n) (now (a .d)) (now (a .q)) (a .i) (c .l-entry .result) (c .before .pairs-with .result) (c .l-entry .ensures)
     (c .before .pairs-with .ensures .0)
 

@@ -24,8 +24,10 @@ pair-rest-requires c κs = search needs
 
 returns-2 : tie.Need-returns-2
 returns-2 c =
-    let a = c .before .before .before .before .before .args in
-    lower-wire maxWires (now (a .q)) (a .i) (a .j) (c .pair-rest .result) (c .before .before .before .if1 .left) (c .pair-rest .ensures .1) (omega arith)
+    let else1 : tie.Else1 = search in
+    let start : tie.Start = search in
+    let a = start .args in
+    lower-wire maxWires (now (a .q)) (a .i) (a .j) (c .pair-rest .result) (else1 .if1 .left) (c .pair-rest .ensures .1) (omega arith)
     (c .pair-rest .ensures .0)
 
 mul-pair-rest-2 : tie.Need-mul-pair-rest-2
@@ -42,8 +44,10 @@ pair-rest-requires-2 c κs = search needs
 
 returns-3 : tie.Need-returns-3
 returns-3 c =
-    let a = c .before .before .before .before .before .args in
-    higher-wire maxWires (now (a .q)) (a .i) (a .j) (c .pair-rest2 .result) (c .before .before .before .if1 .left) (c .pair-rest2 .ensures .1) (omega arith)
+    let else1 : tie.Else1 = search in
+    let start : tie.Start = search in
+    let a = start .args in
+    higher-wire maxWires (now (a .q)) (a .i) (a .j) (c .pair-rest2 .result) (else1 .if1 .left) (c .pair-rest2 .ensures .1) (omega arith)
     (c .pair-rest2 .ensures .0)
 
 pub pair-with-spec : {M : Type 1} → statement M

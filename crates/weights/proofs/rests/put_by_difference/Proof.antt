@@ -1,7 +1,7 @@
 -- The table of q, the rests by it, and the weights by these.
 use borrow.Author.Needs.{needs}
 use denote.Ref.{now}
-use Rattle.circuit.specs.Limits.{maxWires, weightBytes}
+use Rattle.circuit.specs.Limits.{maxWires, parities}
 use Rattle.weights.proofs.RestSteps.{by-difference}
 use Rattle.weights.proofs.rests.put_by_difference.Statement.{statement}
 use Rattle.weights.proofs.rests.put_by_difference.Tie as tie
@@ -35,10 +35,13 @@ same-length c = search needs
 
 returns : tie.Need-returns
 returns c =
-    let a = c .before .before .before .before .before .before .before .before .before .before .before .before .before .before .before .before .args in
-    by-difference weightBytes maxWires (a .n) (now (a .d)) (now (a .u)) _ _ _
-    (c .before .before .before .before .before .before .before .before .before .before .before .put-q .ensures)
-    (c .before .before .before .before .before .before .before .put-one-rests .ensures) (c .before .before .put-weights .ensures)
+    let after-put-one-rests : tie.After-put-one-rests = search in
+    let after-put-q : tie.After-put-q = search in
+    let start : tie.Start = search in
+    let a = start .args in
+    by-difference parities maxWires (a .n) (now (a .d)) (now (a .u)) _ _ _
+    (after-put-q .put-q .ensures)
+    (after-put-one-rests .put-one-rests .ensures) (c .before .before .put-weights .ensures)
 
 pub put-by-difference-spec : {M : Type 1} → statement M
 put-by-difference-spec =

@@ -27,10 +27,14 @@ shared-slice-read-out-2 : tie.Need-shared-slice-read-out-2 Inv-loop μ-loop
 shared-slice-read-out-2 c = search needs
 
 mul-out : tie.Need-mul-out Inv-loop μ-loop
-mul-out c = let at = c .before .before .before in record { fits = omega (arith, at .before .pre .3 (at .loop .p) (omega arith)) }
+mul-out c =
+    let at-loop : tie.At-loop Inv-loop μ-loop = search in
+    let at = at-loop in record { fits = omega (arith, at .before .pre .3 (at .loop .p) (omega arith)) }
 
 add-out : tie.Need-add-out Inv-loop μ-loop
-add-out c = let at = c .before .before .before in record { fits = omega (arith, at .before .pre .2 (at .loop .p) (omega arith), at .before .pre .3 (at .loop .p) (omega arith)) }
+add-out c =
+    let at-loop : tie.At-loop Inv-loop μ-loop = search in
+    let at = at-loop in record { fits = omega (arith, at .before .pre .2 (at .loop .p) (omega arith), at .before .pre .3 (at .loop .p) (omega arith)) }
 
 slice-write-out : tie.Need-slice-write-out Inv-loop μ-loop
 slice-write-out c = search needs
@@ -43,7 +47,8 @@ loop-less c = search needs
 
 loop-again : tie.Need-loop-again Inv-loop μ-loop
 loop-again c =
-    let at = c .before .before .before in
+    let at-loop : tie.At-loop Inv-loop μ-loop = search in
+    let at = at-loop in
     let w = now (at .before .args .w) in
     let u = now (at .before .args .u) in
     let p = at .loop .p in (

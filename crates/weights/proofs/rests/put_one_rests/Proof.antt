@@ -19,7 +19,9 @@ abbrev μ-loop : tie.MeasureT-loop
 μ-loop n d q out₀ i₀ out i = maxWires - i
 
 loop-holds : tie.Need-loop-holds Inv-loop μ-loop
-loop-holds c = let a = c .before .before .before .args in (search needs, search needs, filled-none (now (a .out)) (oneRests maxWires (a .n) (now (a .d)) (now (a .q))))
+loop-holds c =
+    let start : tie.Start Inv-loop μ-loop = search in
+    let a = start .args in (search needs, search needs, filled-none (now (a .out)) (oneRests maxWires (a .n) (now (a .d)) (now (a .q))))
 
 one-rest-requires : tie.Need-one-rest-requires Inv-loop μ-loop
 one-rest-requires c κs = search needs
@@ -35,8 +37,9 @@ loop-less c = search needs
 
 loop-again : tie.Need-loop-again Inv-loop μ-loop
 loop-again c =
+    let start : tie.Start Inv-loop μ-loop = search in
     let at = c .before .before in
-    let a = at .before .before .before .before .args in
+    let a = start .args in
     let i = at .loop .i in (
       search needs,
       simp length-set (omega arith),
@@ -49,8 +52,9 @@ same-length c = search needs
 
 returns : tie.Need-returns Inv-loop μ-loop
 returns c =
+    let start : tie.Start Inv-loop μ-loop = search in
     let at = c .before in
-    let a = at .before .before .before .before .args in
+    let a = start .args in
     let e = length-one maxWires (a .n) (now (a .d)) (now (a .q)) in
     filled-all (at .loop .out) (oneRests maxWires (a .n) (now (a .d)) (now (a .q))) (at .loop .i) (omega (arith, e)) (omega (arith, e)) (at .loop .inv .2)
 

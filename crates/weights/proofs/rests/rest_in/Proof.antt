@@ -16,7 +16,8 @@ lowest-requires c κs = search needs
 
 shared-slice-read-wide : tie.Need-shared-slice-read-wide
 shared-slice-read-wide c =
-    let a = c .before .before .before .before .before .args in
+    let start : tie.Start = search in
+    let a = start .args in
     omega (arith, one-inside maxWires maxWires (a .p) (omega arith) (omega arith) (c .before .if1 .taken), c .before .before .lowest .ensures .0)
 
 wide-requires : tie.Need-wide-requires
@@ -24,12 +25,15 @@ wide-requires c κs = search needs
 
 returns : tie.Need-returns
 returns c =
-    let a = c .before .before .before .before .before .before .args in
-    (c .wide .ensures .0 ∙ rest-one-wire maxWires (now (a .one)) (now (a .q)) (a .p) (c .before .before .before .lowest .result) (c .before .before .if1 .taken) (c .before .before .before .lowest .ensures .0), omega (arith, c .wide .ensures .1))
+    let after-lowest : tie.After-lowest = search in
+    let start : tie.Start = search in
+    let a = start .args in
+    (c .wide .ensures .0 ∙ rest-one-wire maxWires (now (a .one)) (now (a .q)) (a .p) (after-lowest .lowest .result) (c .before .before .if1 .taken) (after-lowest .lowest .ensures .0), omega (arith, c .wide .ensures .1))
 
 without-requires : tie.Need-without-requires
 without-requires c κs =
-    let a = c .before .before .before .before .before .args in
+    let start : tie.Start = search in
+    let a = start .args in
     rw (c .before .before .lowest .ensures .0) (low-inside maxWires maxWires (a .p) (omega arith) (omega arith) (c .if2 .taken))
 
 lowest-requires-2 : tie.Need-lowest-requires-2
@@ -43,11 +47,14 @@ add-pair-rest c = search needs
 
 shared-slice-read-pair-rest : tie.Need-shared-slice-read-pair-rest
 shared-slice-read-pair-rest c =
-    let a = c .before .before .before .before .before .before .before .before .args in
-    let i = c .before .before .before .before .before .lowest in
+    let then2 : tie.Then2 = search in
+    let after-lowest : tie.After-lowest = search in
+    let start : tie.Start = search in
+    let a = start .args in
+    let i = after-lowest .lowest in
     let h : a .p < 2 ^ maxWires = omega arith in
     let fit : maxWires ≤ maxWires = omega arith in
-    let o = c .before .before .before .if2 .taken in
+    let o = then2 .if2 .taken in
     let e : c .before .lowest2 .result ≡ next maxWires (a .p) = c .before .lowest2 .ensures .0 ∙ ap (trailingZeros maxWires) (c .before .before .without .ensures ∙ ap (λ (t : ℕ). a .p - 2 ^ t) (i .ensures .0)) in
     omega (arith, e, i .ensures .0, low-inside maxWires maxWires (a .p) fit h o .0, next-inside maxWires maxWires (a .p) fit h o .1)
 
@@ -56,12 +63,18 @@ pair-rest-requires c κs = search needs
 
 returns-2 : tie.Need-returns-2
 returns-2 c =
-    let a = c .before .before .before .before .before .before .before .before .before .args in
-    let i = c .before .before .before .before .before .before .lowest in
-    (rest-two-wires maxWires (now (a .one)) (now (a .q)) (a .p) (i .result) (c .before .before .before .without .result) (c .before .before .lowest2 .result) (c .pair-rest .result) (c .before .before .before .before .if2 .taken) (i .ensures .0) (c .before .before .before .without .ensures) (c .before .before .lowest2 .ensures .0) (c .pair-rest .ensures .0), c .pair-rest .ensures .1)
+    let after-without : tie.After-without = search in
+    let then2 : tie.Then2 = search in
+    let after-lowest : tie.After-lowest = search in
+    let start : tie.Start = search in
+    let a = start .args in
+    let i = after-lowest .lowest in
+    (rest-two-wires maxWires (now (a .one)) (now (a .q)) (a .p) (i .result) (after-without .without .result) (c .before .before .lowest2 .result) (c .pair-rest .result) (then2 .if2 .taken) (i .ensures .0) (after-without .without .ensures) (c .before .before .lowest2 .ensures .0) (c .pair-rest .ensures .0), c .pair-rest .ensures .1)
 
 returns-3 : tie.Need-returns-3
-returns-3 c = let a = c .before .before .before .before .before .args in (rest-more-wires maxWires (now (a .one)) (now (a .q)) (a .p) (c .before .if1 .left) (c .if2 .left), omega arith)
+returns-3 c =
+    let start : tie.Start = search in
+    let a = start .args in (rest-more-wires maxWires (now (a .one)) (now (a .q)) (a .p) (c .before .if1 .left) (c .if2 .left), omega arith)
 
 pub rest-in-spec : {M : Type 1} → statement M
 rest-in-spec =

@@ -27,7 +27,8 @@ quarters-requires c κs = search needs
 
 returns : tie.Need-returns
 returns c =
-    let a = c .before .before .before .args in
+    let start : tie.Start = search in
+    let a = start .args in
     let s = c .before .sum-with in
     let n = sumWith (now (a .w)) (a .i) (a .j) (a .j) in
     (c .quarters .ensures .0 ∙ quarter-minus (s .result) n (s .ensures .0) (omega (arith, s .ensures .1)) ∙ q-by-sum (now (a .w)) (a .i) (a .j), c .quarters .ensures .1)

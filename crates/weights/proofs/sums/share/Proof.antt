@@ -30,13 +30,17 @@ shr-if3 : tie.Need-shr-if3
 shr-if3 c = search needs
 
 returns-3 : tie.Need-returns-3
-returns-3 c = let a = c .before .before .before .args in share-no-k (a .x) (a .p) (a .i) (a .j) (a .k) (c .if3 .taken)
+returns-3 c =
+    let start : tie.Start = search in
+    let a = start .args in share-no-k (a .x) (a .p) (a .i) (a .j) (a .k) (c .if3 .taken)
 
 cast-result : tie.Need-cast-result
 cast-result c = record { sfits = omega arith }
 
 returns-4 : tie.Need-returns-4
-returns-4 c = let a = c .before .before .before .args in share-whole (a .x) (a .p) (a .i) (a .j) (a .k) (c .before .before .if1 .left) (c .before .if2 .left) (c .if3 .left) (omega arith)
+returns-4 c =
+    let start : tie.Start = search in
+    let a = start .args in share-whole (a .x) (a .p) (a .i) (a .j) (a .k) (c .before .before .if1 .left) (c .before .if2 .left) (c .if3 .left) (omega arith)
 
 pub share-spec : {M : Type 1} → statement M
 share-spec =

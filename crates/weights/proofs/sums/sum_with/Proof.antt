@@ -5,7 +5,7 @@ use native.Mathlib.Omega.{arith}
 use lib.ListN.{getD, length}
 use borrow.Author.Needs.{needs}
 use denote.Ref.{now}
-use Rattle.circuit.specs.Limits.{weightBytes}
+use Rattle.circuit.specs.Limits.{parities}
 use Rattle.gf2.specs.Sum.{sum}
 use Rattle.weights.proofs.SignedSum.{added-bits, added-fits, share-le, shareOf, so-far-all, so-far-next, soFar, sum-small}
 use Rattle.weights.proofs.sums.sum_with.Statement.{statement}
@@ -32,7 +32,8 @@ share-requires c κs = search needs
 
 add-s : tie.Need-add-s Inv-loop μ-loop
 add-s c =
-    let at = c .before .before .before in
+    let at-loop : tie.At-loop Inv-loop μ-loop = search in
+    let at = at-loop in
     let a = at .before .before .args in
     let x = getD (now (a .w)) (at .loop .p) 0 in
     let h : at .loop .s + shareOf x (at .loop .p) (a .i) (a .j) (a .k) < 2 ^ 31 = omega (arith, share-le x (at .loop .p) (a .i) (a .j) (a .k), c .before .shared-slice-known2 .given (at .loop .p)) in
@@ -46,7 +47,8 @@ loop-less c = search needs
 
 loop-again : tie.Need-loop-again Inv-loop μ-loop
 loop-again c =
-    let at = c .before .before .before in
+    let at-loop : tie.At-loop Inv-loop μ-loop = search in
+    let at = at-loop in
     let a = at .before .before .args in
     let x = getD (now (a .w)) (at .loop .p) 0 in
     let le = share-le x (at .loop .p) (a .i) (a .j) (a .k) in
@@ -64,7 +66,7 @@ returns c =
     let a = at .before .before .args in
     let e : at .loop .p ≡ length (now (a .w)) = omega arith in (
       so-far-all (now (a .w)) (a .i) (a .j) (a .k) (at .loop .p) (at .loop .s) e (at .loop .inv .1) (omega arith),
-      sum-small (now (a .w)) (a .i) (a .j) (a .k) (at .loop .p) (at .loop .s) (255 * weightBytes) e (at .loop .inv .1) (omega arith),
+      sum-small (now (a .w)) (a .i) (a .j) (a .k) (at .loop .p) (at .loop .s) (255 * parities) e (at .loop .inv .1) (omega arith),
     )
 
 pub sum-with-spec : {M : Type 1} → statement M

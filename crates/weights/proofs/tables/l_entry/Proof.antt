@@ -9,7 +9,9 @@ l-of-requires : tie.Need-l-of-requires
 l-of-requires c κs = search needs
 
 returns : tie.Need-returns
-returns c = let a = c .before .before .before .args in simp (lt-ltb (a .i) (a .n) (omega arith)) (c .l-of .ensures .0)
+returns c =
+    let start : tie.Start = search in
+    let a = start .args in simp (lt-ltb (a .i) (a .n) (omega arith)) (c .l-of .ensures .0)
 
 returns-2 : tie.Need-returns-2
 returns-2 c = let a = c .before .before .args in simp (le-ltb (a .i) (a .n) (omega arith))

@@ -35,8 +35,9 @@ loop-less c = search needs
 
 loop-again : tie.Need-loop-again Inv-loop μ-loop
 loop-again c =
+    let start : tie.Start Inv-loop μ-loop = search in
     let at = c .before .before in
-    let a = at .before .before .before .args in
+    let a = start .args in
     let t = qTable maxWires (a .n) (now (a .w)) in
     let p = at .loop .p in (
       search needs,
@@ -49,8 +50,9 @@ same-length c = search needs
 
 returns : tie.Need-returns Inv-loop μ-loop
 returns c =
+    let start : tie.Start Inv-loop μ-loop = search in
     let at = c .before in
-    let a = at .before .before .before .args in
+    let a = start .args in
     let e = length-q maxWires (a .n) (now (a .w)) in
     filled-all (at .loop .out) (qTable maxWires (a .n) (now (a .w))) (at .loop .p) (omega (arith, e)) (omega (arith, e)) (at .loop .inv .2)
 
