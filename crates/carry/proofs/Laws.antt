@@ -7,7 +7,7 @@ use Prim.Native.Nat.{_*_, _+_, _<_, _≤_, ℕ}
 use native.Mathlib.Omega.{arith}
 use lib.ListN.{drop, length, take}
 use Rattle.circuit.proofs.Judging.{lent-well, refuse-done, refused}
-use Rattle.circuit.specs.Faults.{lentFault, refuse}
+use Rattle.circuit.specs.Faults.{badMove, lentFault, refuse}
 use Rattle.circuit.specs.Limits.{maxMembers, maxWires, moveCells, parities, tableBytes}
 use Rattle.circuit.specs.Sound.{SoundMarks}
 use Rattle.circuit.specs.declared.Reply.{Reply}
@@ -17,10 +17,10 @@ use Rattle.moves.proofs.Logs.{cells-say, move-short, move-whole}
 use Rattle.moves.specs.Decide.{isMove}
 use Rattle.moves.specs.Log.{LegalCells, asCells, moveAt, setOf, zOf}
 use Rattle.moves.specs.Move.{Legal}
-use Rattle.weights.proofs.TableRule.{marks-sound}
-use Rattle.weights.proofs.Ways.{call-passes, passes-call}
-use Rattle.weights.specs.Faults.{marksFault}
-use Rattle.carry.specs.Entry.{CarriesOut, badMove, carryFault, carryReply}
+use Rattle.circuit.proofs.TableRule.{marks-sound}
+use Rattle.circuit.proofs.TableRule.{call-passes, passes-call}
+use Rattle.circuit.specs.TableFaults.{marksFault}
+use Rattle.carry.specs.Entry.{CarriesOut, carryFault, carryReply}
 
 -- ---- what the cells say
 

@@ -8,7 +8,7 @@ use native.Mathlib.Omega.{arith}
 use lib.ListN.{length}
 use lib.Pow.{pow-mono}
 use Rattle.circuit.proofs.Judging.{refused}
-use Rattle.circuit.specs.Faults.{lentFault, refuse}
+use Rattle.circuit.specs.Faults.{badMove, lentFault, refuse}
 use Rattle.circuit.specs.Limits.{maxMembers, maxWires, parities, tableBytes}
 use Rattle.circuit.specs.Sound.{SoundMarks}
 use Rattle.circuit.specs.declared.Reply.{Reply}
@@ -20,13 +20,13 @@ use Rattle.moves.specs.CarryOut.{carryOut}
 use Rattle.moves.specs.Decide.{isMove}
 use Rattle.moves.specs.Log.{LegalCells, setOf, zOf}
 use Rattle.moves.specs.Move.{Legal}
-use Rattle.weights.proofs.TableRule.{marks-sound}
-use Rattle.weights.proofs.Ways.{call-passes}
-use Rattle.weights.specs.Faults.{marksFault}
+use Rattle.circuit.proofs.TableRule.{marks-sound}
+use Rattle.circuit.proofs.TableRule.{call-passes}
+use Rattle.circuit.specs.TableFaults.{marksFault}
 use Rattle.carry.proofs.Conditions.{legal-said}
 use Rattle.carry.proofs.Deciding.{denied, granted}
 use Rattle.carry.specs.Decides.{Decides, MoveForm}
-use Rattle.carry.specs.Entry.{CarriesOut, badMove, carryFault, carryReply}
+use Rattle.carry.specs.Entry.{CarriesOut, carryFault, carryReply}
 
 not-done : {P : Type 0} (number place : ℕ) → Refused number place ≡ Done → P
 not-done number place e = let z : _≡_ {A = ℕ} 0 1 = cc in absurd (omega arith)

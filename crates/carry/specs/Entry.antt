@@ -6,7 +6,7 @@ use mathlib.Core.Path.{_≡_}
 use Prim.Native.Nat.{_+_, _≤_, ℕ}
 use lib.ListN.{length}
 use Rattle.circuit.specs.Entry.{after}
-use Rattle.circuit.specs.Faults.{lentFault, refuse}
+use Rattle.circuit.specs.Faults.{badMove, lentFault, refuse}
 use Rattle.circuit.specs.Limits.{maxMembers, parities, tableBytes}
 use Rattle.circuit.specs.OddSet.{members}
 use Rattle.circuit.specs.Sound.{SoundMarks}
@@ -16,11 +16,7 @@ use Rattle.moves.specs.CarryOut.{carryOut}
 use Rattle.moves.specs.Decide.{isMove}
 use Rattle.moves.specs.Log.{LegalCells, setOf, zOf}
 use Rattle.phase.specs.Signature.{SameSignature}
-use Rattle.weights.specs.Faults.{callFault, marksFault}
-
--- document 01, "Faults": cells that are no legal move for this odd set, or another number of them
-abbrev pub badMove : ℕ
-badMove = 10
+use Rattle.circuit.specs.TableFaults.{callFault, marksFault}
 
 -- 1, 8 and 6: the marks are input and output, so a wrong length gives 8, a wrong mark 6
 abbrev pub carryFault : ℕ → List ℕ → ℕ

@@ -8,9 +8,12 @@ use native.Mathlib.Decide.{decLe, ℕ-discrete}
 use native.Mathlib.Nat.{add-zero}
 use native.Mathlib.Omega.{arith}
 use borrow.Author.Tests.{eq-eqb, le-leb, lt-leb, ne-eqb}
-use Rattle.circuit.specs.Faults.{AllWellFormed, FirstFault, Has, KindHas, KindWellFormed, WellFormed, cnotFault, firstFault, gateAt, gateFault, gateWire, kindFault, lentFault, listFault, orElse, phaseFault, readFault, refuse, sameWire, shortFault, wiresFault}
+use Rattle.circuit.specs.Entry.{readFault}
+use Rattle.circuit.specs.Faults.{AllWellFormed, FirstFault, Has, KindHas, KindWellFormed, WellFormed}
+use Rattle.circuit.specs.Faults.{cnotFault, firstFault, gateAt, gateFault, gateWire, kindFault, phaseFault, refuse, sameWire}
+use Rattle.circuit.specs.Faults.{lentFault, listCallFault, listFault, orElse, shortFault, wiresFault}
 use Rattle.circuit.specs.Gate.{Gate, gate, kindOf}
-use Rattle.circuit.specs.Limits.{gateBytes, maxListBytes, maxWires, parities, rowCells, tableBytes}
+use Rattle.circuit.specs.Limits.{gateBytes, maxListBytes, maxWires, rowCells, tableBytes}
 use Rattle.circuit.specs.declared.gates.Kind.{Kind}
 use Rattle.circuit.specs.declared.gates.Kind.the-variants.{Cnot, Phase, Unknown}
 use Rattle.circuit.specs.declared.Reply.{Reply}
@@ -68,39 +71,49 @@ pub or-well : (f g : ℕ) → f ≡ 0 → g ≡ 0 → orElse f g ≡ 0
 or-well zero g a b = b
 or-well (suc f) g a b = absurd (omega arith)
 
+-- a call that brings a list, without faults 1, 2 and 8
+pub list-call-passes : (n bytes lent : ℕ) → listCallFault n bytes lent ≡ 0
+    → (1 ≤ n) × (n ≤ maxWires) × (bytes % gateBytes ≡ 0) × (bytes ≤ maxListBytes) × (lent ≡ 0)
+list-call-passes n bytes lent e =
+    let a = or-pass (wiresFault n) (orElse (listFault bytes) lent) e in
+    let b = or-pass (listFault bytes) lent (a .1) in
+    let w = wires-pass n (a .0) in
+    let l = list-pass bytes (b .0) in
+    (w .0, w .1, l .0, l .1, b .1)
+
+pub passes-list-call : (n bytes lent : ℕ) → 1 ≤ n → n ≤ maxWires → bytes % gateBytes ≡ 0 → bytes ≤ maxListBytes → lent ≡ 0
+    → listCallFault n bytes lent ≡ 0
+passes-list-call n bytes lent some few whole short z =
+    or-well _ _ (wires-well n some few) (or-well _ _ (list-well bytes whole short) z)
+
 -- what a call of `read` without faults 1, 2 and 8 brings
 pub record Called (n m weights rows : ℕ) : Type 0 where
   pub some : 1 ≤ n
   pub few : n ≤ maxWires
   pub whole : m % gateBytes ≡ 0
   pub short : m ≤ maxListBytes
-  pub weights-long : weights ≡ parities
+  pub weights-long : weights ≡ tableBytes
   pub rows-long : rows ≡ rowCells
 
-pub call-passes : (n m weights rows : ℕ) → readFault n m weights rows ≡ 0 → Called n m weights rows
+pub read-passes : (n m weights rows : ℕ) → readFault n m weights rows ≡ 0 → Called n m weights rows
 unfolding readFault
-call-passes n m weights rows e =
-    let lent : ℕ = orElse (lentFault weights tableBytes) (lentFault rows rowCells) in
-    let a = or-pass (wiresFault n) (orElse (listFault m) lent) e in
-    let b = or-pass (listFault m) lent (a .1) in
-    let d = or-pass (lentFault weights tableBytes) (lentFault rows rowCells) (b .1) in
-    let w = wires-pass n (a .0) in
-    let l = list-pass m (b .0) in
+read-passes n m weights rows e =
+    let a = list-call-passes n m (orElse (lentFault weights tableBytes) (lentFault rows rowCells)) e in
+    let d = or-pass (lentFault weights tableBytes) (lentFault rows rowCells) (a .4) in
     record {
-      some = w .0;
-      few = w .1;
-      whole = l .0;
-      short = l .1;
+      some = a .0;
+      few = a .1;
+      whole = a .2;
+      short = a .3;
       weights-long = lent-pass weights tableBytes (d .0);
       rows-long = lent-pass rows rowCells (d .1);
     }
 
-pub passes-call : (n m weights rows : ℕ) → Called n m weights rows → readFault n m weights rows ≡ 0
+pub passes-read : (n m weights rows : ℕ) → Called n m weights rows → readFault n m weights rows ≡ 0
 unfolding readFault
-passes-call n m weights rows c =
-    or-well _ _ (wires-well n (c .some) (c .few))
-    (or-well _ _ (list-well m (c .whole) (c .short))
-    (or-well _ _ (lent-well weights tableBytes (c .weights-long)) (lent-well rows rowCells (c .rows-long))))
+passes-read n m weights rows c =
+    passes-list-call n m _ (c .some) (c .few) (c .whole) (c .short)
+    (or-well _ _ (lent-well weights tableBytes (c .weights-long)) (lent-well rows rowCells (c .rows-long)))
 
 -- ---- a gate
 

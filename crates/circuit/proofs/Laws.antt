@@ -5,14 +5,14 @@ use mathlib.Core.Path.{ap, ap₂, subst, sym, _∙_, _≡_}
 use Prim.Native.Nat.{_+_, _<_, _^_, ℕ, _≤_}
 use native.Mathlib.Omega.{arith}
 use lib.ListN.{length}
-use Rattle.circuit.proofs.Judging.{call-passes, done-formed, first-refused, formed-done, passes-call, refuse-done, refused-first}
+use Rattle.circuit.proofs.Judging.{read-passes, done-formed, first-refused, formed-done, passes-read, refuse-done, refused-first}
 use Rattle.circuit.proofs.OddSet.{odd-set-at-most-t, t-moves-one}
 use Rattle.circuit.proofs.ReadRuns.{read-runs}
 use Rattle.circuit.proofs.Sound.{read-sound}
-use Rattle.circuit.proofs.Steps.{tables}
-use Rattle.circuit.specs.Entry.{ReadList, readBytes, readReply}
-use Rattle.circuit.specs.Faults.{Accepted, AllWellFormed, FirstFault, WellFormed, firstFault, readFault}
+use Rattle.circuit.specs.Entry.{ReadList, readBytes, readFault, readReply}
+use Rattle.circuit.specs.Faults.{Accepted, AllWellFormed, FirstFault, WellFormed, firstFault}
 use Rattle.circuit.specs.Gate.{Gate, gate, gatesOf, isT, tGates}
+use Rattle.circuit.specs.Lent.{readingLent}
 use Rattle.circuit.specs.Limits.{maxWires, parities, rowCells}
 use Rattle.circuit.specs.OddSet.{members, oddSet}
 use Rattle.circuit.specs.Read.{Reading, read}
@@ -46,14 +46,14 @@ odd-set-no-larger = odd-set-at-most-t
 -- an accepted list is read: nothing sound is refused
 pub accepted-is-read : (n : ℕ) (bytes : List ℕ) (weights rows : ℕ) → Accepted n bytes → weights ≡ parities → rows ≡ rowCells → readReply n bytes weights rows ≡ Done
 accepted-is-read n bytes weights rows a w r =
-    rw (passes-call n (length bytes) weights rows (record { some = a .some; few = a .few; whole = a .whole; short = a .short; weights-long = w; rows-long = r }))
+    rw (passes-read n (length bytes) weights rows (record { some = a .some; few = a .few; whole = a .whole; short = a .short; weights-long = w; rows-long = r }))
     (formed-done n 0 (gatesOf bytes) (a .formed))
 
 -- what is read is accepted: nothing faulty is
 pub read-is-accepted : (n : ℕ) (bytes : List ℕ) (weights rows : ℕ) → readReply n bytes weights rows ≡ Done → Accepted n bytes × (weights ≡ parities) × (rows ≡ rowCells)
 read-is-accepted n bytes weights rows e =
     let t = refuse-done (readFault n (length bytes) weights rows) 0 (firstFault n 0 (gatesOf bytes)) e in
-    let c = call-passes n (length bytes) weights rows (t .0) in
+    let c = read-passes n (length bytes) weights rows (t .0) in
     (record { some = c .some; few = c .few; whole = c .whole; short = c .short; formed = done-formed n 0 (gatesOf bytes) (t .1) }, c .weights-long, c .rows-long)
 
 -- a gate's fault is the first of the list
@@ -76,11 +76,11 @@ module _ (n : ℕ) (bytes weights rows weights′ rows′ : List ℕ) (r : ReadL
   accepted : Accepted n bytes
   accepted = read-is-accepted n bytes (length weights) (length rows) (sym (r .reply)) .0
 
-  is : readBytes n bytes ≡ tables weights′ rows′
-  is = ap₂ tables (sym (r .weights-left)) (sym (r .rows-left))
+  is : readBytes n bytes ≡ readingLent weights′ rows′
+  is = ap₂ readingLent (sym (r .weights-left)) (sym (r .rows-left))
 
-  pub read-tells : (x : ℕ) → x < 2 ^ n → run (gatesOf bytes) x ≡ says n (tables weights′ rows′) x
+  pub read-tells : (x : ℕ) → x < 2 ^ n → run (gatesOf bytes) x ≡ says n (readingLent weights′ rows′) x
   read-tells x l = read-runs maxWires n (accepted .few) (gatesOf bytes) (accepted .formed) x l ∙ ap (λ (y : Reading). says n y x) is
 
-  pub read-leaves-sound : SoundReading maxWires n (tables weights′ rows′)
+  pub read-leaves-sound : SoundReading maxWires n (readingLent weights′ rows′)
   read-leaves-sound = subst (λ (y : Reading). SoundReading maxWires n y) is (read-sound maxWires n (accepted .few) (gatesOf bytes) (accepted .formed))

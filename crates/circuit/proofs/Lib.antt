@@ -1,9 +1,12 @@
 pub mod Bytes
+pub mod Filling
+pub mod Widths
 pub mod GateKinds
 pub mod Sound
 pub mod ReadRuns
 pub mod OddSet
 pub mod Judging
+pub mod TableRule
 pub mod Steps
 pub mod ReadWays
 pub mod Laws

@@ -17,7 +17,7 @@ use Rattle.circuit.proofs.Sound.{gate-keeps, no-weight, read-append, re
 use Rattle.circuit.specs.Faults.{AllWellFormed, KindWellFormed, WellFormed}
 use Rattle.circuit.specs.Gate.{Gate, gate, isT, kindOf, tGates}
 use Rattle.circuit.specs.OddSet.{members, oddSet}
-use Rattle.circuit.specs.Read.{Reading, noWeights, read, readFrom, readGate, readKind, row, start}
+use Rattle.circuit.specs.Read.{Reading, noWeights, read, readFrom, readGate, readKind, row, start, withWeights}
 use Rattle.circuit.specs.Sound.{SoundReading}
 use Rattle.circuit.specs.declared.gates.Kind.{Kind}
 use Rattle.circuit.specs.declared.gates.Kind.the-variants.{Cnot, Phase, Unknown}
@@ -76,12 +76,12 @@ lands N n fit r o a = let m : 2 ^ n ≤ 2 ^ N = pow-mono fit in omega (arith, o 
 
 -- the reading with v added at q
 abbrev pub added : ℕ → ℕ → Reading → Reading
-added q v r = record { weights = addAt 8 (r .weights) q v; rows = r .rows }
+added q v r = withWeights (addAt 8 (r .weights) q v) r
 
 kind-added : (q v : ℕ) (k : Kind) (a b : ℕ) (r : Reading) → readKind k a b (added q v r) ≡ added q v (readKind k a b r)
 unfolding readKind
 kind-added q v Cnot a b r = refl
-kind-added q v (Phase u) a b r = ap (λ (w : List ℕ). record { weights = w; rows = r .rows }) (addAt-comm 8 (r .weights) q v (row r a) u)
+kind-added q v (Phase u) a b r = ap (λ (w : List ℕ). withWeights w r) (addAt-comm 8 (r .weights) q v (row r a) u)
 kind-added q v Unknown a b r = refl
 
 reading-added : (q v : ℕ) (gs : List Gate) (r : Reading) → readFrom gs (added q v r) ≡ added q v (readFrom gs r)

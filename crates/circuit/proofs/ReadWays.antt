@@ -4,12 +4,12 @@ use mathlib.Core.Logic.{_≢_}
 use mathlib.Core.Path.{ap, refl, sym, _∙_, _≡_}
 use Prim.Native.Nat.{ℕ, _≤_}
 use lib.ListN.{length}
-use Rattle.circuit.proofs.Judging.{Called, call-passes, done-formed, refused}
+use Rattle.circuit.proofs.Judging.{Called, read-passes, done-formed, refused}
 use Rattle.circuit.proofs.Sound.{read-sound}
-use Rattle.circuit.proofs.Steps.{tables}
-use Rattle.circuit.specs.Entry.{ReadList, readBytes, readReply}
-use Rattle.circuit.specs.Faults.{AllWellFormed, firstFault, readFault, refuse}
+use Rattle.circuit.specs.Entry.{ReadList, readBytes, readFault, readReply}
+use Rattle.circuit.specs.Faults.{AllWellFormed, firstFault, refuse}
 use Rattle.circuit.specs.Gate.{gatesOf}
+use Rattle.circuit.specs.Lent.{readingLent}
 use Rattle.circuit.specs.Limits.{maxWires}
 use Rattle.circuit.specs.Read.{Reading}
 use Rattle.circuit.specs.Sound.{SoundReading}
@@ -27,7 +27,7 @@ module _ (n : ℕ) (g w s : List ℕ) (f : ℕ) (judged : f ≡ readFault n (len
 
   module _ (clear : f ≡ 0) (found : Reply) (is : found ≡ firstFault n 0 (gatesOf g)) where
     called : Called n (length g) (length w) (length s)
-    called = call-passes n (length g) (length w) (length s) (sym judged ∙ clear)
+    called = read-passes n (length g) (length w) (length s) (sym judged ∙ clear)
 
     by-gates : found ≡ readReply n g (length w) (length s)
     by-gates = is ∙ ap (λ (x : ℕ). refuse x 0 (firstFault n 0 (gatesOf g))) (sym clear ∙ judged)
@@ -39,7 +39,7 @@ module _ (n : ℕ) (g w s : List ℕ) (f : ℕ) (judged : f ≡ readFault n (len
       pub may-read : (n ≤ maxWires) × AllWellFormed n (gatesOf g)
       may-read = (called .few, done-formed n 0 (gatesOf g) (sym is ∙ done))
 
-      module _ (w′ s′ : List ℕ) (reads : tables w′ s′ ≡ readBytes n g) where
+      module _ (w′ s′ : List ℕ) (reads : readingLent w′ s′ ≡ readBytes n g) where
         sound : SoundReading maxWires n (readBytes n g)
         sound = read-sound maxWires n (called .few) (gatesOf g) (may-read .1)
 

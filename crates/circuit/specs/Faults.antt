@@ -6,14 +6,14 @@ use Prim.Native.Nat.{_%_, _<_, suc, zero, ℕ, _≤_}
 use lib.Dec.{eqb, leb}
 use lib.ListN.{getD, length}
 use Rattle.circuit.specs.Gate.{Gate, gate, gatesOf, kindOf}
-use Rattle.circuit.specs.Limits.{gateBytes, maxListBytes, maxWires, rowCells, tableBytes}
+use Rattle.circuit.specs.Limits.{gateBytes, maxListBytes, maxWires}
 use Rattle.circuit.specs.Read.{either}
 use Rattle.circuit.specs.declared.gates.Kind.{Kind}
 use Rattle.circuit.specs.declared.gates.Kind.the-variants.{Cnot, Phase, Unknown}
 use Rattle.circuit.specs.declared.Reply.{Reply}
 use Rattle.circuit.specs.declared.Reply.the-variants.{Done, Refused}
 
--- ---- the table's numbers that a list or a call can have
+-- ---- the table's numbers, each once by name
 
 -- wire count 0 or above 8
 abbrev pub wireCount : ℕ
@@ -35,9 +35,25 @@ gateWire = 4
 abbrev pub sameWire : ℕ
 sameWire = 5
 
+-- weights or odd set of another length than theirs, or a byte against its rule
+abbrev pub tableRule : ℕ
+tableRule = 6
+
+-- rows of another number than theirs, a bit or row beyond n, or not invertible
+abbrev pub rowRule : ℕ
+rowRule = 7
+
 -- a lent output of another length than it must have
 abbrev pub lentOutput : ℕ
 lentOutput = 8
+
+-- text line malformed
+abbrev pub malformed : ℕ
+malformed = 9
+
+-- cells that are no legal move for this odd set, or another number of them
+abbrev pub badMove : ℕ
+badMove = 10
 
 -- ---- accepted lists
 
@@ -130,7 +146,10 @@ lentFault bytes wanted = either (eqb bytes wanted) 0 lentOutput
 abbrev pub shortFault : ℕ → ℕ → ℕ
 shortFault bytes wanted = either (leb wanted bytes) 0 lentOutput
 
--- 1, 2 and 8 of a call that reads a list, by the lengths of the list, the weights and the rows
-unfoldable pub readFault : ℕ → ℕ → ℕ → ℕ → ℕ
-readFault n bytes weights rows =
-    orElse (wiresFault n) (orElse (listFault bytes) (orElse (lentFault weights tableBytes) (lentFault rows rowCells)))
+-- the first fault of a call that brings a list of so many bytes: 1, 2, then 8 of what it lends
+abbrev pub listCallFault : ℕ → ℕ → ℕ → ℕ
+listCallFault n bytes lent = orElse (wiresFault n) (orElse (listFault bytes) lent)
+
+-- a fault of a call, which has place 0, or none
+abbrev pub callReply : ℕ → Reply
+callReply fault = refuse fault 0 Done

@@ -1,6 +1,8 @@
 -- Document 01, "Gates and what they do": a gate is three bytes, kind, a and b. A list of gates is read from bytes by `gatesOf`.
+use mathlib.Core.Bool.{cond}
 use mathlib.Core.List.{List, [], _∷_}
-use Prim.Native.Nat.{_+_, suc, zero, ℕ}
+use Prim.Native.Nat.{_+_, ℕ}
+use lib.Dec.{eqb}
 use Rattle.gf2.specs.Sum.{delta}
 use Rattle.circuit.specs.declared.gates.Kind.{Kind}
 use Rattle.circuit.specs.declared.gates.Kind.the-variants.{Cnot, Phase, Unknown}
@@ -9,20 +11,44 @@ use Rattle.circuit.specs.declared.gates.Kind.the-variants.{Cnot, Phase, 
 pub data Gate : Type 0 where
   gate : ℕ → ℕ → ℕ → Gate
 
--- kind 1 is CNOT; kinds 2 to 6 are T, S, Z, S dagger and T dagger, and add 1, 2, 4, 6 or 7 eighths of a turn; there are no other kinds
-unfoldable pub kindOf : ℕ → Kind
-kindOf zero = Unknown
-kindOf (suc zero) = Cnot
-kindOf (suc (suc zero)) = Phase 1
-kindOf (suc (suc (suc zero))) = Phase 2
-kindOf (suc (suc (suc (suc zero)))) = Phase 4
-kindOf (suc (suc (suc (suc (suc zero))))) = Phase 6
-kindOf (suc (suc (suc (suc (suc (suc zero)))))) = Phase 7
-kindOf (suc (suc (suc (suc (suc (suc (suc kind))))))) = Unknown
+-- ---- the kinds, each once by name
 
--- 1 for T and T dagger, kinds 2 and 6; else 0
+-- control a, target b
+abbrev pub CNOT : ℕ
+CNOT = 1
+
+-- phase gates on wire a, with b zero
+abbrev pub T : ℕ
+T = 2
+
+abbrev pub S : ℕ
+S = 3
+
+abbrev pub Z : ℕ
+Z = 4
+
+abbrev pub S-dagger : ℕ
+S-dagger = 5
+
+abbrev pub T-dagger : ℕ
+T-dagger = 6
+
+-- what a kind says: a CNOT, or a phase gate with the eighths of a turn that it adds; there are no other kinds
+unfoldable pub kindOf : ℕ → Kind
+kindOf kind =
+    cond (eqb kind CNOT) Cnot
+    (cond (eqb kind T) (Phase 1)
+    (cond (eqb kind S) (Phase 2)
+    (cond (eqb kind Z) (Phase 4)
+    (cond (eqb kind S-dagger) (Phase 6)
+    (cond (eqb kind T-dagger) (Phase 7)
+    Unknown)))))
+
+-- 1 for T and T dagger, else 0
 unfoldable pub isT : ℕ → ℕ
-isT kind = delta 2 kind + delta 6 kind
+isT kind = delta T kind + delta T-dagger kind
+
+-- ---- lists of gates
 
 -- how many T and T dagger gates a list holds
 unfoldable pub tGates : List Gate → ℕ

@@ -2,8 +2,10 @@ pub mod Limits
 pub mod Gate
 pub mod Run
 pub mod Read
+pub mod Lent
 pub mod Says
 pub mod OddSet
 pub mod Sound
 pub mod Faults
+pub mod TableFaults
 pub mod Entry

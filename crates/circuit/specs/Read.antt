@@ -14,6 +14,13 @@ pub record Reading : Type 0 where
   pub weights : List ℕ
   pub rows : List ℕ
 
+-- a reading with other weights, or with other rows, and all else as it was
+abbrev pub withWeights : List ℕ → Reading → Reading
+withWeights w r = record { weights = w; rows = r .rows }
+
+abbrev pub withRows : List ℕ → Reading → Reading
+withRows rows r = record { weights = r .weights; rows = rows }
+
 -- the parity that wire i holds
 abbrev pub row : Reading → ℕ → ℕ
 row r i = getD (r .rows) i 0
@@ -43,8 +50,8 @@ joinRows a b rows = set rows b (bitXor (getD rows b 0) (getD rows a 0))
 
 -- a gate's phase is added, modulo 8, at the parity that its wire holds at that gate
 unfoldable pub readKind : Kind → ℕ → ℕ → Reading → Reading
-readKind Cnot a b r = record { weights = r .weights; rows = joinRows a b (r .rows) }
-readKind (Phase v) a b r = record { weights = addAt 8 (r .weights) (row r a) v; rows = r .rows }
+readKind Cnot a b r = withRows (joinRows a b (r .rows)) r
+readKind (Phase v) a b r = withWeights (addAt 8 (r .weights) (row r a) v) r
 readKind Unknown a b r = r
 
 abbrev pub readGate : Gate → Reading → Reading

@@ -1,6 +1,7 @@
 -- Document 01, "Gates and what they do": running a list on a basis state. This is the meaning of a circuit; everything else is judged by it.
 use mathlib.Core.List.{List, [], _∷_}
-use Prim.Native.Nat.{_%_, _*_, _+_, _^_, ℕ}
+use mathlib.Core.Path.{_≡_}
+use Prim.Native.Nat.{_%_, _*_, _+_, _<_, _^_, ℕ}
 use lib.Bits.{bitXor}
 use Rattle.gf2.specs.Bit.{bit}
 use Rattle.circuit.specs.Gate.{Gate, gate, kindOf}
@@ -33,3 +34,7 @@ runFrom (g ∷ gs) s = runFrom gs (runGate g s)
 -- running starts at x with phase 0
 abbrev pub run : List Gate → ℕ → State
 run gs x = runFrom gs (record { bits = x; phase = 0 })
+
+-- each of the 2^n basis states goes to the same state with the same phase modulo 8
+abbrev pub SameAction : ℕ → List Gate → List Gate → Type 0
+SameAction n C D = (x : ℕ) → x < 2 ^ n → run D x ≡ run C x

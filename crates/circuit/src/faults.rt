@@ -1,7 +1,10 @@
-// The faults of document 01 that a call or a gate can have. Each function gives the fault's number, and 0 where there is none.
+// The faults of document 01, each once by name, and the checks of a call and of a gate: 1, 2 and 8, then 3, 4 and 5. Check 6 is in
+// table_faults. Each function gives the fault's number, and 0 where there is none.
 ghost use mathlib.Core.Path.{_≡_};
 ghost use Rattle.circuit.specs.Gate.{gate, gatesOf};
-ghost use Rattle.circuit.specs.Faults.{wiresFault, listFault, lentFault, shortFault, orElse, readFault, cnotFault, phaseFault, gateFault, firstFault};
+ghost use Rattle.circuit.specs.Entry.{readFault};
+ghost use Rattle.circuit.specs.Faults.{wiresFault, listFault, lentFault, shortFault, orElse, listCallFault};
+ghost use Rattle.circuit.specs.Faults.{cnotFault, phaseFault, gateFault, firstFault};
 use crate::Reply;
 use crate::gates::Kind;
 use crate::gates::kind_of;
@@ -21,7 +24,15 @@ pub const GATE_WIRE: u8 = 4;
 
 pub const SAME_WIRE: u8 = 5;
 
+pub const TABLE_RULE: u8 = 6;
+
+pub const ROW_RULE: u8 = 7;
+
 pub const OUTPUT: u8 = 8;
+
+pub const MALFORMED: u8 = 9;
+
+pub const BAD_MOVE: u8 = 10;
 
 // Fault 1: the wire count is 0 or above the limit.
 pub fn wires_fault(n: usize) -> u8
@@ -70,7 +81,14 @@ pub fn or_else(fault: u8, next: u8) -> u8
     if fault == 0 { next } else { fault }
 }
 
-// Faults 1, 2 and 8 of a call that reads a list, by the lengths lent.
+// The first fault of a call that brings a list of so many bytes: 1, 2, then 8 of the outputs lent.
+pub fn list_call_fault(n: usize, bytes: usize, lent: u8) -> u8
+    ensures { λ r. ⌜ r ≡ listCallFault n bytes lent ⌝ }
+{
+    or_else(wires_fault(n), or_else(list_fault(bytes), lent))
+}
+
+// Faults 1, 2 and 8 of a call of `read`, by the lengths lent.
 pub fn read_fault(n: usize, bytes: usize, weights: usize, rows: usize) -> u8
     ensures { λ r. ⌜ r ≡ readFault n bytes weights rows ⌝ }
 {
@@ -78,7 +96,7 @@ pub fn read_fault(n: usize, bytes: usize, weights: usize, rows: usize) -> u8
         lent_fault(weights, TABLE_BYTES),
         lent_fault(rows, ROW_CELLS),
     );
-    or_else(wires_fault(n), or_else(list_fault(bytes), lent))
+    list_call_fault(n, bytes, lent)
 }
 
 // The first of faults 3, 4 and 5 in a list, with its gate index.

@@ -1,7 +1,19 @@
-// What a gate's kind byte says (document 01, "Gates and what they do"). Every other function asks here.
+// The kinds of gates, each once by name, and what a gate's kind byte says (document 01, "Gates and what they do"). Every other function asks here.
 ghost use mathlib.Core.Path.{_≡_};
 ghost use Prim.Native.Nat.{_≤_};
-ghost use Rattle.circuit.specs.Gate.{kindOf};
+ghost use Rattle.circuit.specs.Gate.{T, T-dagger, kindOf};
+
+pub const CNOT: u8 = 1;
+
+pub const T: u8 = 2;
+
+pub const S: u8 = 3;
+
+pub const Z: u8 = 4;
+
+pub const S_DAGGER: u8 = 5;
+
+pub const T_DAGGER: u8 = 6;
 
 // A CNOT; a phase gate, with what it adds in eighths of a turn; or no gate.
 pub enum Kind {
@@ -14,22 +26,21 @@ pub fn kind_of(kind: u8) -> Kind
     ensures { λ r. ⌜ r ≡ kindOf kind ⌝ }
 {
     match kind {
-        1 => Kind::Cnot,
-        2..=6 => Kind::Phase(phase_of(kind)),
+        CNOT => Kind::Cnot,
+        T..=T_DAGGER => Kind::Phase(phase_of(kind)),
         _ => Kind::Unknown,
     }
 }
 
-// T, S, Z, S dagger and T dagger.
 fn phase_of(kind: u8) -> u8
-    requires { ⌜ (2 ≤ kind) × (kind ≤ 6) ⌝ }
+    requires { ⌜ (T ≤ kind) × (kind ≤ T-dagger) ⌝ }
     ensures { λ r. ⌜ Kind.Phase r ≡ kindOf kind ⌝ }
 {
     match kind {
-        2 => 1,
-        3 => 2,
-        4 => 4,
-        5 => 6,
+        T => 1,
+        S => 2,
+        Z => 4,
+        S_DAGGER => 6,
         _ => 7,
     }
 }

@@ -1,17 +1,22 @@
 // Circuits of CNOT, T, S, Z and their inverses: what a list of gates does, and which weights and rows it has (document 01).
 // Public entry: `read`. Its promise is the record ReadList of specs/Entry; proofs/Laws says what the promise means.
-ghost use mathlib.Core.Path.{_≡_};
-ghost use lib.ListN.{length};
 ghost use Rattle.circuit.specs.Entry.{ReadList};
 
+pub mod cells;
+pub mod copying;
 pub mod faults;
 pub mod gates;
 pub mod limits;
 pub mod parity;
 pub mod reading;
+pub mod table_faults;
 
+use copying::copy_bytes;
+use copying::copy_parities;
 use faults::first_fault;
 use faults::read_fault;
+use limits::Parity;
+use limits::Weight;
 use reading::read_gates;
 
 // The reply of an entry whose results are in the buffers lent: done, or document 01's number and place of the fault.
@@ -21,7 +26,7 @@ pub enum Reply {
 }
 
 // Reads a list of gates into weights and rows. A refusal leaves both as they were.
-pub fn read(n: usize, gates: &[u8], weights: &mut [u8], rows: &mut [u8]) -> Reply
+pub fn read(n: usize, gates: &[u8], weights: &mut [Weight], rows: &mut [Parity]) -> Reply
     ensures { λ r. ⌜ ReadList n (now (gates .entry)) (now (weights .entry)) (now (rows .entry)) (now (weights .exit)) (now (rows .exit)) r ⌝ }
 {
     let fault = read_fault(n, gates.len(), weights.len(), rows.len());
@@ -41,19 +46,7 @@ pub fn read(n: usize, gates: &[u8], weights: &mut [u8], rows: &mut [u8]) -> Repl
     let t = read_gates(n, gates);
     let w = t.weights;
     let r = t.rows;
-    copy_into(&w, weights);
-    copy_into(&r, rows);
+    copy_bytes(&w, weights);
+    copy_parities(&r, rows);
     Reply::Done
-}
-
-// Copies bytes into a lent buffer of the same length. Internal.
-pub fn copy_into(source: &[u8], target: &mut [u8])
-    requires { ⌜ length (now source) ≡ length (now target) ⌝ }
-    ensures { λ _. ⌜ now (target .exit) ≡ now (source .entry) ⌝ }
-{
-    let mut j: usize = 0;
-    while j < source.len() {
-        target[j] = source[j];
-        j += 1;
-    }
 }

@@ -1,13 +1,38 @@
-// The wires of a parity.
+// The wires of a parity. What depends on the width of a parity stands here, once.
+ghost use mathlib.Core.Logic.{_≢_};
 ghost use mathlib.Core.Path.{_≡_};
-ghost use Prim.Native.Nat.{_≤_};
-ghost use lib.Count.{trailingZeros};
-ghost use Rattle.circuit.specs.Limits.{maxWires};
+ghost use Prim.Native.Nat.{_<_, _^_};
+ghost use lib.Count.{ones, trailingZeros};
+ghost use Rattle.circuit.specs.Limits.{maxWires, parities};
 use crate::limits::Parity;
 
-// The lowest wire that p names; MAX_WIRES where it names none.
-pub fn lowest(p: Parity) -> usize
-    ensures { λ r. ⌜ (r ≡ trailingZeros maxWires p) × (r ≤ maxWires) ⌝ }
+// The place of a parity in a table.
+pub fn index_of(p: Parity) -> usize
+    requires { ⌜ p < parities ⌝ }
+    ensures { λ r. ⌜ (r ≡ p) × (r < parities) ⌝ }
 {
-    u8::trailing_zeros(p) as usize
+    p as usize
+}
+
+// The parity of wire i alone.
+pub fn unit(i: usize) -> Parity
+    requires { ⌜ i < maxWires ⌝ }
+    ensures { λ r. ⌜ r ≡ 2 ^ i ⌝ }
+{
+    (1usize << i) as Parity
+}
+
+// How many wires p names.
+pub fn wires_of(p: Parity) -> u32
+    ensures { λ r. ⌜ r ≡ ones p ⌝ }
+{
+    u64::count_ones(p as u64)
+}
+
+// The lowest wire that p names.
+pub fn lowest(p: Parity) -> usize
+    requires { ⌜ (p ≢ 0) × (p < parities) ⌝ }
+    ensures { λ r. ⌜ (r ≡ trailingZeros maxWires p) × (r < maxWires) ⌝ }
+{
+    u64::trailing_zeros(p as u64) as usize
 }

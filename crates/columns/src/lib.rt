@@ -2,7 +2,7 @@
 // triples of wires in a single xor. The finder and the check of a move share them. Internal: no entry for users.
 ghost use mathlib.Core.Path.{_≡_};
 ghost use Prim.Native.Nat.{_+_, _<_, _≤_, _^_};
-ghost use Rattle.circuit.specs.Limits.{maxWires, productBits};
+ghost use Rattle.circuit.specs.Limits.{maxWires, parities, productBits};
 ghost use Rattle.moves.specs.Kappa.{kappa};
 ghost use Rattle.moves.specs.Product.{tri};
 ghost use Rattle.columns.specs.Table.{ProductTable};
@@ -16,7 +16,7 @@ use table::product;
 // The column of y for z and its wire t: the product entry of y or, where y names t, of y ^ z, with the bit of (t, t) then set.
 pub fn column(products: &[u64; PARITIES], z: Parity, t: usize, y: Parity) -> u64
     requires { ⌜ ProductTable (now products) ⌝ }
-    requires { ⌜ t < maxWires ⌝ }
+    requires { ⌜ (t < maxWires) × (z < parities) × (y < parities) ⌝ }
     ensures { λ r. ⌜ (r ≡ kappa maxWires z t y) × (r < 2 ^ productBits) ⌝ }
 {
     if (y >> t) % 2 == 0 {

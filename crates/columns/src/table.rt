@@ -1,7 +1,10 @@
 // The product table (document 01, "Signature"): a fixed entry for each parity, of one bit for each pair of wires i <= j.
+ghost use Prim.Native.Nat.{_<_};
+ghost use Rattle.circuit.specs.Limits.{parities};
 ghost use Rattle.columns.specs.Table.{ProductEntry, ProductTable};
 use circuit::limits::PARITIES;
 use circuit::limits::Parity;
+use circuit::parity::index_of;
 
 const PRODUCTS: [u64; PARITIES] = [
     0,
@@ -271,8 +274,9 @@ pub fn products() -> [u64; PARITIES]
 
 // Bit j (j + 1) / 2 + i of entry p is set when p names both i and j.
 pub fn product(products: &[u64; PARITIES], p: Parity) -> u64
-    requires { ⌜ ProductTable (now products) ⌝ }
+    requires { ⌜ ProductTable (now products) × (p < parities) ⌝ }
     ensures { λ r. ⌜ ProductEntry p r ⌝ }
 {
-    products[p as usize]
+    let i = index_of(p);
+    products[i]
 }

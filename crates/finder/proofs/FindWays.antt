@@ -9,9 +9,9 @@ use Rattle.circuit.specs.Faults.{lentFault}
 use Rattle.circuit.specs.Limits.{maxWires, moveCells, parities}
 use Rattle.circuit.specs.Sound.{SoundMarks}
 use Rattle.kernel.specs.declared.Offered.the-variants.{Nothing as None, Separating}
-use Rattle.weights.proofs.TableRule.{marks-sound}
-use Rattle.weights.proofs.Ways.{call-passes}
-use Rattle.weights.specs.Faults.{callFault, marksFault}
+use Rattle.circuit.proofs.TableRule.{marks-sound}
+use Rattle.circuit.proofs.TableRule.{call-passes}
+use Rattle.circuit.specs.TableFaults.{callFault, marksFault}
 use Rattle.finder.proofs.OnWires.{searchable, searched-legal, searched-none}
 use Rattle.finder.specs.Entry.{FindMove, findFault}
 use Rattle.finder.specs.Search.{Searched}

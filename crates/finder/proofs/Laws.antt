@@ -12,9 +12,9 @@ use Rattle.circuit.specs.OddSet.{members}
 use Rattle.circuit.specs.Sound.{SoundMarks}
 use Rattle.moves.proofs.Laws.{limits-suffice, none-legal-bound}
 use Rattle.moves.specs.Move.{Legal}
-use Rattle.weights.proofs.TableRule.{marks-sound}
-use Rattle.weights.proofs.Ways.{call-passes, passes-call}
-use Rattle.weights.specs.Faults.{marksFault}
+use Rattle.circuit.proofs.TableRule.{marks-sound}
+use Rattle.circuit.proofs.TableRule.{call-passes, passes-call}
+use Rattle.circuit.specs.TableFaults.{marksFault}
 use Rattle.finder.specs.Entry.{Answers, FindMove, findFault, numberOf, placeOf}
 use Rattle.finder.specs.declared.Finding.{Finding}
 use Rattle.finder.specs.declared.Finding.the-variants.{Found, Nothing, Refused}

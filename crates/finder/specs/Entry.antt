@@ -8,7 +8,7 @@ use Rattle.circuit.specs.Faults.{lentFault}
 use Rattle.circuit.specs.Limits.{maxMembers, moveCells}
 use Rattle.moves.specs.Log.{LegalCells}
 use Rattle.moves.specs.Move.{Legal}
-use Rattle.weights.specs.Faults.{callFault, marksFault}
+use Rattle.circuit.specs.TableFaults.{callFault, marksFault}
 use Rattle.finder.specs.declared.Finding.{Finding}
 use Rattle.finder.specs.declared.Finding.the-variants.{Found, Nothing, Refused}
 

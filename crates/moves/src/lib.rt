@@ -1,2 +1,13 @@
 // Legal moves on an odd set (document 01, "Legal moves"): what they are, that a move keeps the signature and makes the odd set smaller,
 // how few members are left where none is legal, and when a pair of members has one. Definitions in specs/; proofs/Laws states the theorems.
+// The code beside it flips one mark, and has the answer of a search: `marks`.
+
+pub mod marks;
+
+// Whether a search has found a legal move.
+pub enum Sought {
+    // It has: the cells lent hold the move.
+    Found,
+    // No move is legal, and the cells are as they were.
+    Nothing,
+}

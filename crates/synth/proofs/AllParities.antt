@@ -10,8 +10,8 @@ use lib.ListN.{getD, length, length-append, length-set}
 use lib.Pow.{pow-mono}
 use lib.Seq.{ext-getD}
 use Rattle.circuit.proofs.Sound.{addAt-other, addAt-same, length-none, no-weight, read-append}
-use Rattle.circuit.proofs.Steps.{tables}
 use Rattle.circuit.specs.Faults.{AllWellFormed}
+use Rattle.circuit.specs.Lent.{readingLent}
 use Rattle.circuit.specs.Read.{Reading, firstRows, read, readFrom, start}
 use Rattle.circuit.specs.Sound.{SoundWeights, weight}
 use Rattle.gf2.proofs.BitCounts.{bits-total}
@@ -58,9 +58,9 @@ module _ (N n : ℕ) (fit : n ≤ N) (w : List ℕ) (sound : SoundWeights (2 ^ N
       small : suc v < 8
       small = rw e at (sound .small k)
 
-      done : readFrom (writeParity N n k (suc v)) r ≡ tables (addAt 8 (r .weights) k (suc v)) (firstRows N n)
+      done : readFrom (writeParity N n k (suc v)) r ≡ readingLent (addAt 8 (r .weights) k (suc v)) (firstRows N n)
       done =
-          ap (λ (rows : List ℕ). readFrom (writeParity N n k (suc v)) (tables (r .weights) rows)) (h .rows)
+          ap (λ (rows : List ℕ). readFrom (writeParity N n k (suc v)) (readingLent (r .weights) rows)) (h .rows)
           ∙ read-parity N n k fit some l v (r .weights) (omega (arith, small)) inside
 
       at : (p : ℕ) → p < suc k → Dec (p ≡ k) → getD (addAt 8 (r .weights) k (suc v)) p 0 ≡ weight w p
@@ -77,11 +77,11 @@ module _ (N n : ℕ) (fit : n ≤ N) (w : List ℕ) (sound : SoundWeights (2 ^ N
       rw (read-append (writePhases N n w k) (writeParity N n k (weight w k)) (start N n))
       (next k (weight w k) l refl (readFrom (writePhases N n w k) (start N n)) (passed k (omega arith)))
 
-  pub phases-read-back : read N n (writePhases N n w (2 ^ n)) ≡ tables w (firstRows N n)
+  pub phases-read-back : read N n (writePhases N n w (2 ^ n)) ≡ readingLent w (firstRows N n)
   phases-read-back =
       let h = passed (2 ^ n) (le-refl (2 ^ n)) in
       let r : Reading = read N n (writePhases N n w (2 ^ n)) in
-      ap₂ tables (ext-getD 0 (r .weights) w (h .long) (λ p l. at h p (decLt p (2 ^ n)))) (h .rows)
+      ap₂ readingLent (ext-getD 0 (r .weights) w (h .long) (λ p l. at h p (decLt p (2 ^ n)))) (h .rows)
     where
       at : Passed N n w (2 ^ n) (read N n (writePhases N n w (2 ^ n))) → (p : ℕ) → Dec (p < 2 ^ n) → getD (read N n (writePhases N n w (2 ^ n)) .weights) p 0 ≡ weight w p
       at h p (yes l) = h .below p l
@@ -108,7 +108,7 @@ module _ (N n : ℕ) (fit : n ≤ N) (w : List ℕ) (sound : SoundWeights (2 ^ N
       go : Dec (k ≡ 0) → kindsAt k (writeParity N n k (weight w k)) r ≡ spelling (weight w k)
       go (yes z) = rw (ap (weight w) z ∙ sound .none)
       go (no z) =
-          ap (λ (rows : List ℕ). kindsAt k (writeParity N n k (weight w k)) (tables (r .weights) rows)) e
+          ap (λ (rows : List ℕ). kindsAt k (writeParity N n k (weight w k)) (readingLent (r .weights) rows)) e
           ∙ parity-here N n k fit z l (weight w k) (r .weights) (sound .small k)
 
   away : (k s : ℕ) → k < 2 ^ n → k ≢ s → (r : Reading) → r .rows ≡ firstRows N n → kindsAt s (writeParity N n k (weight w k)) r ≡ []
@@ -118,7 +118,7 @@ module _ (N n : ℕ) (fit : n ≤ N) (w : List ℕ) (sound : SoundWeights (2 ^ N
       go : Dec (k ≡ 0) → kindsAt s (writeParity N n k (weight w k)) r ≡ []
       go (yes z) = rw (ap (weight w) z ∙ sound .none)
       go (no z) =
-          ap (λ (rows : List ℕ). kindsAt s (writeParity N n k (weight w k)) (tables (r .weights) rows)) e
+          ap (λ (rows : List ℕ). kindsAt s (writeParity N n k (weight w k)) (readingLent (r .weights) rows)) e
           ∙ parity-away N n k fit z l (weight w k) (r .weights) (sound .small k) s ne
 
   kinds-none : (k s : ℕ) → k ≤ s → k ≤ 2 ^ n → kindsAt s (writePhases N n w k) (start N n) ≡ []

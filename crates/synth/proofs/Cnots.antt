@@ -9,9 +9,9 @@ use lib.Bits.{bitXor, xor-zero-r}
 use lib.ListN.{getD, length, length-append, set}
 use lib.Seq.{getD-set-other, getD-set-same, set-getD, set-set}
 use Rattle.circuit.proofs.Sound.{read-append}
-use Rattle.circuit.proofs.Steps.{tables}
 use Rattle.circuit.specs.Faults.{AllWellFormed}
 use Rattle.circuit.specs.Gate.{kindOf}
+use Rattle.circuit.specs.Lent.{readingLent}
 use Rattle.circuit.specs.Read.{Reading, joinRows, readFrom, readKind}
 use Rattle.gf2.proofs.Bit.{bit-lt}
 use Rattle.gf2.proofs.BitCounts.{bits-at-most, flip-other, flip-same}
@@ -37,14 +37,14 @@ gather-one t k m rows h ne =
     ∙ ap (set rows t) (ap₂ bitXor (getD-set-same rows t v 0 h) (getD-set-other rows t k v 0 ne) ∙ xor-assoc (getD rows t 0) (combine m rows) (getD rows k 0))
 
 one-reads : (c t k m : ℕ) (w rows : List ℕ) → c < 2 → t < length rows → (c ≡ 1 → k ≢ t)
-    → readFrom (cnotIf c k t) (tables w (gather t m rows))
-    ≡ tables w (set rows t (bitXor (getD rows t 0) (bitXor (combine m rows) (c * getD rows k 0))))
+    → readFrom (cnotIf c k t) (readingLent w (gather t m rows))
+    ≡ readingLent w (set rows t (bitXor (getD rows t 0) (bitXor (combine m rows) (c * getD rows k 0))))
 unfolding cnotIf readFrom readKind kindOf
 one-reads zero t k m w rows l h ne =
-    ap (λ (y : ℕ). tables w (set rows t (bitXor (getD rows t 0) y))) (sym (ap (bitXor (combine m rows)) (zero-mul (getD rows k 0)) ∙ xor-zero-r (combine m rows)))
+    ap (λ (y : ℕ). readingLent w (set rows t (bitXor (getD rows t 0) y))) (sym (ap (bitXor (combine m rows)) (zero-mul (getD rows k 0)) ∙ xor-zero-r (combine m rows)))
 one-reads (suc zero) t k m w rows l h ne =
-    ap (tables w) (gather-one t k m rows h (ne refl))
-    ∙ ap (λ (y : ℕ). tables w (set rows t (bitXor (getD rows t 0) (bitXor (combine m rows) y)))) (sym (one-mul (getD rows k 0)))
+    ap (readingLent w) (gather-one t k m rows h (ne refl))
+    ∙ ap (λ (y : ℕ). readingLent w (set rows t (bitXor (getD rows t 0) (bitXor (combine m rows) y)))) (sym (one-mul (getD rows k 0)))
 one-reads (suc (suc c)) t k m w rows l h ne = absurd (omega arith)
 
 -- a wire of q is not t
@@ -52,20 +52,20 @@ apart : (q t k : ℕ) → bit q t ≡ 0 → bit q k ≡ 1 → k ≢ t
 apart q t k off on e = let z : _≡_ {A = ℕ} 1 0 = sym on ∙ ap (bit q) e ∙ off in omega arith
 
 cnots-below : (k q t : ℕ) (w rows : List ℕ) → t < length rows → bit q t ≡ 0
-    → readFrom (cnots k q t) (tables w rows) ≡ tables w (gather t (q % 2 ^ k) rows)
+    → readFrom (cnots k q t) (readingLent w rows) ≡ readingLent w (gather t (q % 2 ^ k) rows)
 unfolding cnots readFrom
 cnots-below zero q t w rows h off =
-    ap (tables w) (sym (ap (λ (y : ℕ). set rows t (bitXor (getD rows t 0) y)) (combine-first q rows) ∙ ap (set rows t) (xor-zero-r (getD rows t 0)) ∙ set-getD rows t 0))
+    ap (readingLent w) (sym (ap (λ (y : ℕ). set rows t (bitXor (getD rows t 0) y)) (combine-first q rows) ∙ ap (set rows t) (xor-zero-r (getD rows t 0)) ∙ set-getD rows t 0))
 cnots-below (suc k) q t w rows h off =
-    read-append (cnots k q t) (cnotIf (bit q k) k t) (tables w rows)
+    read-append (cnots k q t) (cnotIf (bit q k) k t) (readingLent w rows)
     ∙ ap (readFrom (cnotIf (bit q k) k t)) (cnots-below k q t w rows h off)
     ∙ one-reads (bit q k) t k (q % 2 ^ k) w rows (bit-lt q k) h (apart q t k off)
-    ∙ ap (λ (y : ℕ). tables w (set rows t (bitXor (getD rows t 0) y))) (sym (combine-next q k rows))
+    ∙ ap (λ (y : ℕ). readingLent w (set rows t (bitXor (getD rows t 0) y))) (sym (combine-next q k rows))
 
 -- the parities of the wires of q go into wire t; the weights stay
 pub read-cnots : (n q t : ℕ) (w rows : List ℕ) → q < 2 ^ n → t < length rows → bit q t ≡ 0
-    → readFrom (cnots n q t) (tables w rows) ≡ tables w (gather t q rows)
-read-cnots n q t w rows l h off = cnots-below n q t w rows h off ∙ ap (λ (m : ℕ). tables w (gather t m rows)) (mod-eq-of-lt l)
+    → readFrom (cnots n q t) (readingLent w rows) ≡ readingLent w (gather t q rows)
+read-cnots n q t w rows l h off = cnots-below n q t w rows h off ∙ ap (λ (m : ℕ). readingLent w (gather t m rows)) (mod-eq-of-lt l)
 
 -- ---- how many
 

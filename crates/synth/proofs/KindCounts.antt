@@ -7,12 +7,12 @@ use lib.Dec.{eqb}
 use borrow.Author.Tests.{eq-eqb, ne-eqb}
 use Rattle.circuit.proofs.Sound.{gate-keeps}
 use Rattle.circuit.specs.Faults.{AllWellFormed, KindWellFormed}
-use Rattle.circuit.specs.Gate.{Gate, gate, isT, kindOf, tGates}
+use Rattle.circuit.specs.Gate.{Gate, T, T-dagger, gate, isT, kindOf, tGates}
 use Rattle.circuit.specs.Read.{Reading, readGate, row}
 use Rattle.circuit.specs.Sound.{SoundReading}
 use Rattle.gf2.proofs.Sum.{delta-other, sum-add, sum-ext, sum-single, sum-zero}
 use Rattle.gf2.specs.Sum.{delta, sum}
-use Rattle.synth.specs.Spelling.{T, T-dagger, gatesOfKind, kindHere, kindsAt, occurs}
+use Rattle.synth.specs.Spelling.{gatesOfKind, kindHere, kindsAt, occurs}
 use Rattle.circuit.specs.declared.gates.Kind.{Kind}
 use Rattle.circuit.specs.declared.gates.Kind.the-variants.{Cnot, Phase, Unknown}
 

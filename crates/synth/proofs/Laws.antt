@@ -7,10 +7,10 @@ use native.Mathlib.Omega.{arith}
 use lib.ListN.{length, take}
 use Rattle.circuit.proofs.ReadRuns.{read-runs}
 use Rattle.circuit.proofs.Sound.{start-sound}
-use Rattle.circuit.proofs.Steps.{tables}
 use Rattle.circuit.specs.Entry.{readBytes}
 use Rattle.circuit.specs.Faults.{AllWellFormed}
 use Rattle.circuit.specs.Gate.{Gate, kindOf}
+use Rattle.circuit.specs.Lent.{frontGates, readingLent}
 use Rattle.circuit.specs.Limits.{gateBytes, maxWires, maxWrittenGates, rowCells, writtenGates}
 use Rattle.circuit.specs.Read.{Reading, start}
 use Rattle.circuit.specs.Run.{run}
@@ -21,7 +21,7 @@ use Rattle.synth.proofs.KindCounts.{kinds-total}
 use Rattle.synth.proofs.RowRule.{rows-sound}
 use Rattle.synth.proofs.WriteBack.{list-written}
 use Rattle.synth.proofs.WriteWays.{fault-ready, longest, ready-faultless}
-use Rattle.synth.specs.Entry.{WriteList, Wrote, WroteBytes, frontGates, writeReply}
+use Rattle.synth.specs.Entry.{WriteList, Wrote, WroteBytes, writeReply}
 use Rattle.synth.specs.Faults.{Writable, rowsFault, writeFault}
 use Rattle.synth.specs.Spelling.{gatesOfKind, kindsAt, occurs}
 use Rattle.synth.specs.Writing.{writeList}
@@ -82,12 +82,12 @@ module _ (n : ℕ) (w rows g g′ : List ℕ) (count : ℕ) (x : WriteList n w r
   few = written-is-writable n w rows g g′ count x .few
 
   -- run on a basis state, the gates bring it where the rows say, with the phase that the weights say
-  pub written-runs : (s : ℕ) → s < 2 ^ n → run (frontGates count g′) s ≡ says n (tables w rows) s
+  pub written-runs : (s : ℕ) → s < 2 ^ n → run (frontGates count g′) s ≡ says n (readingLent w rows) s
   written-runs s l =
       read-runs maxWires n few (frontGates count g′) (x .gates-left .list .formed) s l ∙ ap (λ (r : Reading). says n r s) (x .gates-left .list .reads)
 
   -- the reader of the same gates gives back the weights and rows
-  pub written-reads-back : readBytes n (take (gateBytes * count) g′) ≡ tables w rows
+  pub written-reads-back : readBytes n (take (gateBytes * count) g′) ≡ readingLent w rows
   written-reads-back = x .gates-left .list .reads
 
   -- at most n * 2^n + n * n gates; 2,112 on eight wires

@@ -11,8 +11,8 @@ use lib.ListN.{List·getD-map, getD, length, length-append, length-map, length-s
 use lib.Pow.{pow-lt}
 use lib.Seq.{getD-set-other}
 use Rattle.circuit.proofs.Sound.{combine-first-rows, first-rows-beyond, first-sound, length-first, read-append}
-use Rattle.circuit.proofs.Steps.{tables}
 use Rattle.circuit.specs.Faults.{AllWellFormed}
+use Rattle.circuit.specs.Lent.{readingLent}
 use Rattle.circuit.specs.Read.{firstRows, readFrom}
 use Rattle.gf2.proofs.Bit.{bit-lt, bit-of-zero, bit-pow-other, bit-pow-same, bit-scale, bit-values, bit-xor}
 use Rattle.gf2.proofs.BitCounts.{flip-same}
@@ -199,10 +199,10 @@ module _ (N n r : ℕ) (wanted masks held : List ℕ) (fit : n ≤ N) (h : Going
       at g j l (yes e) = rw e last
       at g j l (no e) = g .past j (omega arith)
 
-  pub row-reads : (w : List ℕ) → readFrom (rowGates n r b masks) (tables w held) ≡ tables w heldAfter
+  pub row-reads : (w : List ℕ) → readFrom (rowGates n r b masks) (readingLent w held) ≡ readingLent w heldAfter
   unfolding m between heldAfter
   row-reads w =
-      read-append (cnots n (lack r m) b) (cnots n (surplus r b masks) r) (tables w held)
+      read-append (cnots n (lack r m) b) (cnots n (surplus r b masks) r) (readingLent w held)
       ∙ ap (readFrom (cnots n (surplus r b masks) r))
       (read-cnots n (lack r m) b w held (lack-less n r b m lo hi m-less named) (omega (arith, h .tall)) (lack-off n r b m lo hi m-less named))
       ∙ read-cnots n (surplus r b masks) r w between less (omega (arith, half .tall)) off

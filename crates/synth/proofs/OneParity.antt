@@ -10,8 +10,8 @@ use lib.ListN.{getD, length, length-append, length-set}
 use lib.Pow.{pow-lt, pow-mono}
 use lib.Seq.{getD-set-same}
 use Rattle.circuit.proofs.Sound.{combine-first-rows, first-row, length-first, read-append}
-use Rattle.circuit.proofs.Steps.{tables}
 use Rattle.circuit.specs.Faults.{AllWellFormed}
+use Rattle.circuit.specs.Lent.{readingLent}
 use Rattle.circuit.specs.Read.{firstRows, readFrom}
 use Rattle.gf2.proofs.BitCounts.{flip-other, flip-same}
 use Rattle.gf2.proofs.Gather.{gather, gather-twice}
@@ -36,32 +36,32 @@ module _ (n q t v : ℕ) (less : q < 2 ^ n) (off : bit q t ≡ 0) (w rows : List
   unfolding held
   at = getD-set-same rows t (bitXor (getD rows t 0) (combine q rows)) 0 low ∙ holds
 
-  in-between : readFrom (cnots n q t) (tables w rows) ≡ tables w held
+  in-between : readFrom (cnots n q t) (readingLent w rows) ≡ readingLent w held
   unfolding held
   in-between = read-cnots n q t w rows less low off
 
-  pub read-around : v < 7 → p < length w → readFrom (around n q t (suc v)) (tables w rows) ≡ tables (addAt 8 w p (suc v)) rows
+  pub read-around : v < 7 → p < length w → readFrom (around n q t (suc v)) (readingLent w rows) ≡ readingLent (addAt 8 w p (suc v)) rows
   unfolding around held
   read-around small l =
-      read-append (cnots n q t) (spell (suc v) t ++ cnots n q t) (tables w rows)
+      read-append (cnots n q t) (spell (suc v) t ++ cnots n q t) (readingLent w rows)
       ∙ ap (readFrom (spell (suc v) t ++ cnots n q t)) in-between
-      ∙ read-append (spell (suc v) t) (cnots n q t) (tables w held)
-      ∙ ap (readFrom (cnots n q t)) (read-spell v t w held small (rw at l) ∙ ap (λ (c : ℕ). tables (addAt 8 w c (suc v)) held) at)
+      ∙ read-append (spell (suc v) t) (cnots n q t) (readingLent w held)
+      ∙ ap (readFrom (cnots n q t)) (read-spell v t w held small (rw at l) ∙ ap (λ (c : ℕ). readingLent (addAt 8 w c (suc v)) held) at)
       ∙ read-cnots n q t (addAt 8 w p (suc v)) held less (rw (length-set rows t (bitXor (getD rows t 0) (combine q rows))) low) off
-      ∙ ap (tables (addAt 8 w p (suc v))) (gather-twice t q off rows low)
+      ∙ ap (readingLent (addAt 8 w p (suc v))) (gather-twice t q off rows low)
 
   -- only the spelled gates add phases, and they do at p
-  kinds-around : (s : ℕ) → kindsAt s (around n q t v) (tables w rows) ≡ kindsAt s (spell v t) (tables w held)
+  kinds-around : (s : ℕ) → kindsAt s (around n q t v) (readingLent w rows) ≡ kindsAt s (spell v t) (readingLent w held)
   unfolding around
   kinds-around s =
-      kinds-append s (cnots n q t) (spell v t ++ cnots n q t) (tables w rows)
-      ∙ rw (kinds-cnots s n q t (tables w rows), in-between, kinds-append s (spell v t) (cnots n q t) (tables w held), kinds-cnots s n q t (readFrom (spell v t) (tables w held)))
-      (append-nil (kindsAt s (spell v t) (tables w held)))
+      kinds-append s (cnots n q t) (spell v t ++ cnots n q t) (readingLent w rows)
+      ∙ rw (kinds-cnots s n q t (readingLent w rows), in-between, kinds-append s (spell v t) (cnots n q t) (readingLent w held), kinds-cnots s n q t (readFrom (spell v t) (readingLent w held)))
+      (append-nil (kindsAt s (spell v t) (readingLent w held)))
 
-  pub around-here : v < 8 → kindsAt p (around n q t v) (tables w rows) ≡ spelling v
+  pub around-here : v < 8 → kindsAt p (around n q t v) (readingLent w rows) ≡ spelling v
   around-here small = kinds-around p ∙ kinds-here p v t small w held at
 
-  pub around-away : v < 8 → (s : ℕ) → p ≢ s → kindsAt s (around n q t v) (tables w rows) ≡ []
+  pub around-away : v < 8 → (s : ℕ) → p ≢ s → kindsAt s (around n q t v) (readingLent w rows) ≡ []
   around-away small s ne = kinds-around s ∙ kinds-away s v t small w held (λ e. ne (sym at ∙ e))
 
 -- the lowest wire of p, and its other wires
@@ -99,16 +99,16 @@ module _ (N n p : ℕ) (fit : n ≤ N) (some : p ≢ 0) (less : p < 2 ^ n) where
 
   -- the first rows again, and v added at p
   pub read-parity : (v : ℕ) (w : List ℕ) → v < 7 → p < length w
-      → readFrom (writeParity N n p (suc v)) (tables w (firstRows N n)) ≡ tables (addAt 8 w p (suc v)) (firstRows N n)
+      → readFrom (writeParity N n p (suc v)) (readingLent w (firstRows N n)) ≡ readingLent (addAt 8 w p (suc v)) (firstRows N n)
   unfolding writeParity
   read-parity v w h l = read-around n (others N p) (lowest N p) v others-less others-off w (firstRows N n) p low holds h l
 
-  pub parity-here : (v : ℕ) (w : List ℕ) → v < 8 → kindsAt p (writeParity N n p v) (tables w (firstRows N n)) ≡ spelling v
+  pub parity-here : (v : ℕ) (w : List ℕ) → v < 8 → kindsAt p (writeParity N n p v) (readingLent w (firstRows N n)) ≡ spelling v
   unfolding writeParity kindsAt spelling
   parity-here zero w h = refl
   parity-here (suc v) w h = around-here n (others N p) (lowest N p) (suc v) others-less others-off w (firstRows N n) p low holds h
 
-  pub parity-away : (v : ℕ) (w : List ℕ) → v < 8 → (s : ℕ) → p ≢ s → kindsAt s (writeParity N n p v) (tables w (firstRows N n)) ≡ []
+  pub parity-away : (v : ℕ) (w : List ℕ) → v < 8 → (s : ℕ) → p ≢ s → kindsAt s (writeParity N n p v) (readingLent w (firstRows N n)) ≡ []
   unfolding writeParity kindsAt
   parity-away zero w h s ne = refl
   parity-away (suc v) w h s ne = around-away n (others N p) (lowest N p) (suc v) others-less others-off w (firstRows N n) p low holds h s ne

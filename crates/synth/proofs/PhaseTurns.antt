@@ -11,14 +11,13 @@ use lib.Bits.{bitXor}
 use lib.ListN.{length, length-append}
 use lib.Pow.{pow-mono}
 use Rattle.circuit.proofs.Steps.{shifted}
-use Rattle.circuit.specs.Gate.{Gate, gate}
+use Rattle.circuit.specs.Gate.{CNOT, Gate, gate}
 use Rattle.circuit.specs.Limits.{maxWires, parities}
 use Rattle.circuit.specs.Sound.{weight}
 use Rattle.gf2.proofs.Leading.{bit-inside, bit-lowest}
 use Rattle.gf2.specs.Bit.{bit}
 use Rattle.synth.proofs.AllParities.{phases-grow}
 use Rattle.synth.proofs.Stores.{room-first, room-then, stored-none, stored-then}
-use Rattle.synth.specs.Spelling.{CNOT}
 use Rattle.synth.specs.Storing.{Room, Stored}
 use Rattle.synth.specs.Writing.{around, cnotIf, cnots, lowest, others, spell, writeParity, writePhases}
 

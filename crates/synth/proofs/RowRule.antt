@@ -13,12 +13,12 @@ use lib.Pow.{pow-pos}
 use lib.Seq.{drop-cons, drop-length}
 use borrow.Author.Tests.{eq-eqb, le-leb, le-ltb, lt-leb, lt-ltb, ne-eqb}
 use Rattle.circuit.proofs.Judging.{or-pass, or-well}
-use Rattle.circuit.specs.Faults.{orElse}
+use Rattle.circuit.specs.Faults.{orElse, rowRule}
 use Rattle.circuit.specs.Read.{either}
 use Rattle.circuit.specs.Sound.{SoundRows}
 use Rattle.gf2.specs.Selection.{Independent, combine}
 use Rattle.synth.proofs.RowsWritten.{Dependent}
-use Rattle.synth.specs.Faults.{beyondFault, cancelFault, rowMost, rowRule, rowsFault}
+use Rattle.synth.specs.Faults.{beyondFault, cancelFault, rowMost, rowsFault}
 
 -- ---- a bit or row beyond n
 

@@ -11,10 +11,10 @@ use lib.ListN.{getD, length, length-append}
 use lib.Pow.{pow-lt}
 use lib.Seq.{ext-getD}
 use Rattle.circuit.proofs.Sound.{read-append}
-use Rattle.circuit.proofs.Steps.{tables}
 use Rattle.circuit.specs.Entry.{after}
 use Rattle.circuit.specs.Faults.{AllWellFormed}
 use Rattle.circuit.specs.Gate.{Gate}
+use Rattle.circuit.specs.Lent.{readingLent}
 use Rattle.circuit.specs.Read.{Reading, firstRows, readFrom}
 use Rattle.circuit.specs.Sound.{SoundRows}
 use Rattle.gf2.proofs.BitCounts.{bits-below}
@@ -97,16 +97,16 @@ module _ (N n : ℕ) (fit : n ≤ N) (wanted : List ℕ) where
 
 -- gates that bring the rows held to those wanted: k rows, at most n gates each
 pub record Brings (n k : ℕ) (held wanted : List ℕ) (gs : List Gate) : Type 0 where
-  pub reads : (w : List ℕ) → readFrom gs (tables w held) ≡ tables w wanted
+  pub reads : (w : List ℕ) → readFrom gs (readingLent w held) ≡ readingLent w wanted
   pub formed : AllWellFormed n gs
   pub short : length gs ≤ k * n
 
 -- a row's gates before the gates of the rows after it
-brings-after : (n k : ℕ) (held between wanted : List ℕ) (xs ys : List Gate) → ((w : List ℕ) → readFrom xs (tables w held) ≡ tables w between)
+brings-after : (n k : ℕ) (held between wanted : List ℕ) (xs ys : List Gate) → ((w : List ℕ) → readFrom xs (readingLent w held) ≡ readingLent w between)
     → AllWellFormed n xs → length xs ≤ n → Brings n k between wanted ys → Brings n (suc k) held wanted (xs ++ ys)
 brings-after n k held between wanted xs ys reads formed short b =
     record {
-      reads = λ w. read-append xs ys (tables w held) ∙ ap (readFrom ys) (reads w) ∙ b .reads w;
+      reads = λ w. read-append xs ys (readingLent w held) ∙ ap (readFrom ys) (reads w) ∙ b .reads w;
       formed = formed-append n xs ys formed (b .formed);
       short = omega (arith, length-append xs ys, b .short);
     }
@@ -124,7 +124,7 @@ module _ (N n : ℕ) (fit : n ≤ N) (wanted : List ℕ) (sound : SoundRows N n 
   unfolding rowsFrom readFrom
   rows-bring zero r masks held e h =
       let z : r ≡ n = omega arith in
-      record { reads = λ w. ap (tables w) (all-past N n fit wanted (sound .long) (sound .beyond) masks held (rw z at h)); formed = tt; short = omega arith }
+      record { reads = λ w. ap (readingLent w) (all-past N n fit wanted (sound .long) (sound .beyond) masks held (rw z at h)); formed = tt; short = omega arith }
   rows-bring (suc k) r masks held e h =
       let b : ℕ = pivot n r (getD masks r 0) in
       let hi : b < n = sound-pivot r masks held (omega arith) h in

@@ -9,13 +9,13 @@ use lib.Dec.{eqb}
 use lib.ListN.{getD, length, set}
 use lib.Seq.{getD-set-same, set-set}
 use borrow.Author.Tests.{eq-eqb, ne-eqb}
-use Rattle.circuit.proofs.Steps.{tables}
 use Rattle.circuit.specs.Faults.{AllWellFormed}
-use Rattle.circuit.specs.Gate.{gate, kindOf}
+use Rattle.circuit.specs.Gate.{T, T-dagger, gate, kindOf}
+use Rattle.circuit.specs.Lent.{readingLent}
 use Rattle.circuit.specs.Read.{readFrom, readKind}
 use Rattle.gf2.specs.Sum.{delta}
 use Rattle.gf2.specs.Table.{addAt}
-use Rattle.synth.specs.Spelling.{T, T-dagger, kindsAt, occurs, spelling}
+use Rattle.synth.specs.Spelling.{kindsAt, occurs, spelling}
 use Rattle.synth.specs.Writing.{spell}
 use Rattle.circuit.specs.declared.gates.Kind.the-variants.{Phase}
 
@@ -46,13 +46,13 @@ addAt-twice w q x y z h e =
 
 -- spelled gates on wire t add v at the parity that t holds
 pub read-spell : (v t : ℕ) (w rows : List ℕ) → v < 7 → getD rows t 0 < length w
-    → readFrom (spell (suc v) t) (tables w rows) ≡ tables (addAt 8 w (getD rows t 0) (suc v)) rows
+    → readFrom (spell (suc v) t) (readingLent w rows) ≡ readingLent (addAt 8 w (getD rows t 0) (suc v)) rows
 unfolding spell spelling readFrom readKind kindOf
 read-spell zero t w rows l h = refl
 read-spell (suc zero) t w rows l h = refl
-read-spell (suc (suc zero)) t w rows l h = ap (λ (u : List ℕ). tables u rows) (addAt-twice w (getD rows t 0) 2 1 3 h refl)
+read-spell (suc (suc zero)) t w rows l h = ap (λ (u : List ℕ). readingLent u rows) (addAt-twice w (getD rows t 0) 2 1 3 h refl)
 read-spell (suc (suc (suc zero))) t w rows l h = refl
-read-spell (suc (suc (suc (suc zero)))) t w rows l h = ap (λ (u : List ℕ). tables u rows) (addAt-twice w (getD rows t 0) 4 1 5 h refl)
+read-spell (suc (suc (suc (suc zero)))) t w rows l h = ap (λ (u : List ℕ). readingLent u rows) (addAt-twice w (getD rows t 0) 4 1 5 h refl)
 read-spell (suc (suc (suc (suc (suc zero))))) t w rows l h = refl
 read-spell (suc (suc (suc (suc (suc (suc zero)))))) t w rows l h = refl
 read-spell (suc (suc (suc (suc (suc (suc (suc v))))))) t w rows l h = absurd (omega arith)
@@ -87,7 +87,7 @@ kept true ks = ks
 kept false ks = []
 
 kinds-on : (p t : ℕ) (rows : List ℕ) (holds : Bool) → eqb (getD rows t 0) p ≡ holds → (ks : List ℕ) → Phases ks → (w : List ℕ)
-    → kindsAt p (map (λ kind. gate kind t 0) ks) (tables w rows) ≡ kept holds ks
+    → kindsAt p (map (λ kind. gate kind t 0) ks) (readingLent w rows) ≡ kept holds ks
 unfolding kindsAt readKind
 kinds-on p t rows true e [] f w = refl
 kinds-on p t rows false e [] f w = refl
@@ -98,12 +98,12 @@ kinds-on p t rows false e (k ∷ ks) f w =
 
 module _ (p v t : ℕ) (small : v < 8) (w rows : List ℕ) where
   -- the spelling, at the parity that the wire holds
-  pub kinds-here : getD rows t 0 ≡ p → kindsAt p (spell v t) (tables w rows) ≡ spelling v
+  pub kinds-here : getD rows t 0 ≡ p → kindsAt p (spell v t) (readingLent w rows) ≡ spelling v
   unfolding spell
   kinds-here e = kinds-on p t rows true (eq-eqb (getD rows t 0) p e) (spelling v) (spelling-phases v small) w
 
   -- nothing, at another
-  pub kinds-away : getD rows t 0 ≢ p → kindsAt p (spell v t) (tables w rows) ≡ []
+  pub kinds-away : getD rows t 0 ≢ p → kindsAt p (spell v t) (readingLent w rows) ≡ []
   unfolding spell
   kinds-away e = kinds-on p t rows false (ne-eqb (getD rows t 0) p e) (spelling v) (spelling-phases v small) w
 

@@ -8,9 +8,9 @@ use lib.ListN.{getD, length, length-append}
 use lib.Pow.{pow-mono}
 use Rattle.circuit.proofs.OddSet.{length-odd, odd-mark}
 use Rattle.circuit.proofs.Sound.{read-append, start-sound}
-use Rattle.circuit.proofs.Steps.{tables}
 use Rattle.circuit.specs.Faults.{AllWellFormed}
-use Rattle.circuit.specs.Gate.{Gate, kindOf, tGates}
+use Rattle.circuit.specs.Gate.{Gate, T, T-dagger, kindOf, tGates}
+use Rattle.circuit.specs.Lent.{readingLent}
 use Rattle.circuit.specs.Limits.{writtenGates}
 use Rattle.circuit.specs.OddSet.{members, oddSet}
 use Rattle.circuit.specs.Read.{firstRows, read, readFrom, start}
@@ -24,7 +24,7 @@ use Rattle.synth.proofs.Lists.{formed-append, kinds-append}
 use Rattle.synth.proofs.RowsWritten.{Brings, kinds-rows, rows-written}
 use Rattle.synth.proofs.Spelled.{occurs-odd}
 use Rattle.synth.specs.Entry.{Wrote}
-use Rattle.synth.specs.Spelling.{T, T-dagger, gatesOfKind, kindsAt, occurs, spelledGates, spelling}
+use Rattle.synth.specs.Spelling.{gatesOfKind, kindsAt, occurs, spelledGates, spelling}
 use Rattle.synth.specs.Writing.{writeList, writePhases, writeRows}
 use Rattle.circuit.specs.declared.gates.Kind.the-variants.{Phase}
 
@@ -39,7 +39,7 @@ module _ (N n : ℕ) (fit : n ≤ N) (w rows : List ℕ) (sw : SoundWeights (2 ^
   unfolding gs
   formed = formed-append n (writePhases N n w (2 ^ n)) (writeRows n rows) (formed-phases N n fit w sw (2 ^ n) (le-refl (2 ^ n))) (bring .formed)
 
-  reads : read N n gs ≡ tables w rows
+  reads : read N n gs ≡ readingLent w rows
   unfolding gs
   reads =
       read-append (writePhases N n w (2 ^ n)) (writeRows n rows) (start N n) ∙ ap (readFrom (writeRows n rows)) (phases-read-back N n fit w sw)

@@ -12,14 +12,15 @@ use Rattle.circuit.specs.Faults.{Accepted, orElse, shortFault}
 use Rattle.circuit.specs.Gate.{Gate, bytesOf, gatesOf}
 use Rattle.circuit.specs.Limits.{gateBytes, maxWires, maxWrittenGates, parities, rowCells, writeBytes, writtenGates}
 use Rattle.circuit.specs.Sound.{SoundRows, SoundWeights}
-use Rattle.weights.proofs.TableRule.{weights-sound}
-use Rattle.weights.proofs.Ways.{call-passes, passes-call}
-use Rattle.weights.specs.Faults.{callFault, weightsFault}
+use Rattle.circuit.proofs.TableRule.{weights-sound}
+use Rattle.circuit.proofs.TableRule.{call-passes, passes-call}
+use Rattle.circuit.specs.TableFaults.{callFault, weightsFault}
+use Rattle.circuit.specs.Lent.{frontGates}
 use Rattle.synth.proofs.GateBytes.{gates-of-bytes, length-bytes}
 use Rattle.synth.proofs.RowRule.{or-first, or-second, rows-sound}
 use Rattle.synth.proofs.Stores.{room-first, room-then, stored-front, stored-long, stored-rest, stored-then}
 use Rattle.synth.proofs.WriteBack.{list-written}
-use Rattle.synth.specs.Entry.{WriteList, Wrote, WroteBytes, frontGates, writeReply}
+use Rattle.synth.specs.Entry.{WriteList, Wrote, WroteBytes, writeReply}
 use Rattle.synth.specs.Faults.{Writable, rowsFault, writeFault}
 use Rattle.synth.specs.Storing.{Room, Stored}
 use Rattle.synth.specs.Writing.{writeList, writePhases, writeRows}

@@ -11,6 +11,7 @@ use Rattle.circuit.specs.OddSet.{members, oddSet}
 use Rattle.circuit.specs.Read.{read, start}
 use Rattle.circuit.specs.Sound.{weight}
 use Rattle.circuit.specs.declared.gates.Kind.the-variants.{Phase}
+use Rattle.circuit.specs.Lent.{KeptFrom, frontGates, readingLent}
 use Rattle.synth.specs.Faults.{writeFault}
 use Rattle.synth.specs.Spelling.{gatesOfKind, kindsAt, spelledGates, spelling}
 use Rattle.synth.specs.declared.Written.{Written}
@@ -43,7 +44,7 @@ pub record Wrote (N n : ℕ) (weights rows : List ℕ) (gs : List Gate) : Type 0
   -- no gate has a fault
   pub formed : AllWellFormed n gs
   -- reading it gives exactly these weights and rows
-  pub reads : read N n gs ≡ record { weights = weights; rows = rows }
+  pub reads : read N n gs ≡ readingLent weights rows
   -- at most n * 2^n gates for the weights and n * n for the rows
   pub short : length gs ≤ writtenGates n
   -- the gates that add their phase at p are, in order, those that spell p's weight
@@ -55,10 +56,6 @@ pub record Wrote (N n : ℕ) (weights rows : List ℕ) (gs : List Gate) : Type 0
 
 -- ---- the lent gates
 
--- the gates of the first k * 3 bytes
-abbrev pub frontGates : ℕ → List ℕ → List Gate
-frontGates k bytes = gatesOf (take (gateBytes * k) bytes)
-
 -- from `gates` to `gates′`, that many gates were written for these weights and rows
 pub record WroteBytes (n : ℕ) (weights rows gates gates′ : List ℕ) (count : ℕ) : Type 0 where
   pub counted : count ≡ length (frontGates count gates′)
@@ -66,8 +63,7 @@ pub record WroteBytes (n : ℕ) (weights rows gates gates′ : List ℕ) (count 
   pub accepted : Accepted n (take (gateBytes * count) gates′)
   pub list : Wrote maxWires n weights rows (frontGates count gates′)
   -- every byte after the last gate is as it was
-  pub rest : drop (gateBytes * count) gates′ ≡ drop (gateBytes * count) gates
-  pub long : length gates′ ≡ length gates
+  pub kept : KeptFrom (gateBytes * count) gates gates′
 
 abbrev pub GatesLeft : Written → ℕ → List ℕ → List ℕ → List ℕ → List ℕ → Type 0
 GatesLeft (Done count) n weights rows gates gates′ = WroteBytes n weights rows gates gates′ count

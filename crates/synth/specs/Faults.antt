@@ -4,11 +4,11 @@ use Prim.Native.Nat.{_-_, _^_, _≤_, suc, zero, ℕ}
 use lib.Dec.{eqb, leb, ltb}
 use lib.ListN.{length}
 use Rattle.gf2.specs.Selection.{combine}
-use Rattle.circuit.specs.Faults.{orElse, shortFault}
+use Rattle.circuit.specs.Faults.{orElse, rowRule, shortFault}
 use Rattle.circuit.specs.Limits.{maxWires, parities, rowCells, writeBytes}
 use Rattle.circuit.specs.Read.{either}
 use Rattle.circuit.specs.Sound.{SoundRows, SoundWeights}
-use Rattle.weights.specs.Faults.{callFault, weightsFault}
+use Rattle.circuit.specs.TableFaults.{callFault, weightsFault}
 
 -- none of faults 1, 8, 6 and 7: the wire count, the bytes of the gates lent, the weights, the rows
 pub record Writable (n : ℕ) (weights rows : List ℕ) (gates : ℕ) : Type 0 where
@@ -19,10 +19,6 @@ pub record Writable (n : ℕ) (weights rows : List ℕ) (gates : ℕ) : Type 0 w
   pub rows-sound : SoundRows maxWires n rows
 
 -- ---- the same, computed
-
--- rows not 8 bytes, a bit or row beyond n, or not invertible
-abbrev pub rowRule : ℕ
-rowRule = 7
 
 -- the most that row i may be: no bit beyond n, and 0 from row n on
 abbrev pub rowMost : ℕ → ℕ → ℕ

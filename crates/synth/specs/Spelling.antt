@@ -6,31 +6,11 @@ use Prim.Native.Nat.{_+_, ℕ}
 use lib.Dec.{eqb}
 use lib.ListN.{getD, length}
 use Rattle.gf2.specs.Sum.{delta, sum}
-use Rattle.circuit.specs.Gate.{Gate, gate, kindOf}
+use Rattle.circuit.specs.Gate.{Gate, S, S-dagger, T, T-dagger, Z, gate, kindOf}
 use Rattle.circuit.specs.Read.{Reading, readGate, row}
 use Rattle.circuit.specs.Sound.{weight}
 use Rattle.circuit.specs.declared.gates.Kind.{Kind}
 use Rattle.circuit.specs.declared.gates.Kind.the-variants.{Cnot, Phase, Unknown}
-
--- ---- the kinds of document 01, "Gates and what they do"
-
-abbrev pub CNOT : ℕ
-CNOT = 1
-
-abbrev pub T : ℕ
-T = 2
-
-abbrev pub S : ℕ
-S = 3
-
-abbrev pub Z : ℕ
-Z = 4
-
-abbrev pub S-dagger : ℕ
-S-dagger = 5
-
-abbrev pub T-dagger : ℕ
-T-dagger = 6
 
 -- ---- the spelling
 

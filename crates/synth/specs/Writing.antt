@@ -6,9 +6,9 @@ use lib.Bits.{bitXor}
 use lib.Count.{trailingZeros}
 use lib.ListN.{getD}
 use Rattle.gf2.specs.Bit.{bit}
-use Rattle.circuit.specs.Gate.{Gate, gate}
+use Rattle.circuit.specs.Gate.{CNOT, Gate, gate}
 use Rattle.circuit.specs.Sound.{weight}
-use Rattle.synth.specs.Spelling.{CNOT, spelling}
+use Rattle.synth.specs.Spelling.{spelling}
 
 -- ---- the weights
 

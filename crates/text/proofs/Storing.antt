@@ -9,10 +9,11 @@ use native.Mathlib.Omega.{arith}
 use lib.ListN.{drop, drop-of-length-le, getD, length, set, take}
 use lib.Seq.{drop-cons, sets, sets-eq}
 use Rattle.circuit.specs.Limits.{gateBytes, maxGates, maxListBytes}
+use Rattle.circuit.specs.Lent.{placed}
 use Rattle.text.proofs.LineForms.{formed-lines, formed-long}
 use Rattle.text.specs.Limits.{gateDigits, gateLineBytes}
 use Rattle.text.specs.Lines.{byteAt, firstFormed, gateSpelledAt, linesOf, linesSpell, spelled}
-use Rattle.text.specs.Placed.{Stores, placed}
+use Rattle.text.specs.Placed.{Stores}
 
 -- ---- stores in a row
 

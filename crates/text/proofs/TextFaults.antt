@@ -10,14 +10,14 @@ use native.Mathlib.Omega.{arith}
 use lib.ListN.{drop, drop-of-length-le, length, take}
 use borrow.Author.Tests.{eq-eqb, le-ltb, lt-leb, lt-ltb, ne-eqb}
 use Rattle.circuit.proofs.Judging.{refuse-done, refused, wires-well}
-use Rattle.circuit.specs.Faults.{listLength, refuse, wiresFault}
+use Rattle.circuit.specs.Faults.{listLength, malformed, refuse, wiresFault}
 use Rattle.circuit.specs.Limits.{maxGates, maxWires}
 use Rattle.circuit.specs.declared.Reply.{Reply}
 use Rattle.circuit.specs.declared.Reply.the-variants.{Done, Refused}
 use Rattle.text.proofs.LineForms.{formed-lines, formed-long, some-line}
 use Rattle.text.specs.Limits.{gateDigits, gateLineBytes, wiresDigits, wiresLineBytes}
 use Rattle.text.specs.Lines.{Line, ended, firstFormed, formed, byteAt, linesOf, linesSpell, spelled}
-use Rattle.text.specs.Text.{circuit, faulty, gatesFault, linesFault, malformed, readText, wiresIn}
+use Rattle.text.specs.Text.{circuit, faulty, gatesFault, linesFault, readText, wiresIn}
 
 -- ---- by lines
 

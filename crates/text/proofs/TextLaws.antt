@@ -11,7 +11,7 @@ use lib.Dec.{ltb}
 use lib.ListN.{drop, length, length-append, take}
 use lib.Seq.{drop-append-seam, take-append-seam}
 use borrow.Author.Tests.{eq-eqb, le-ltb, lt-leb, lt-ltb, ne-eqb}
-use Rattle.circuit.specs.Faults.{lentOutput, listLength, wireCount, wiresFault}
+use Rattle.circuit.specs.Faults.{lentOutput, listLength, malformed, wireCount, wiresFault}
 use Rattle.circuit.specs.Gate.{Gate, gate, gatesOf}
 use Rattle.circuit.specs.Limits.{gateBytes, maxGates, maxListBytes, maxWires, maxWrittenGates}
 use Rattle.circuit.specs.declared.Reply.{Reply}
@@ -25,7 +25,7 @@ use Rattle.text.specs.Entry.{ReadText, gatesAfter, readInto, replyOf}
 use Rattle.text.specs.Hex.{hex2, hex4}
 use Rattle.text.specs.Limits.{countsLineBytes, gateDigits, gateLineBytes, refusedLineBytes, replyBytes, textBytes, wiresDigits, wiresLineBytes}
 use Rattle.text.specs.Lines.{firstFormed, linesOf, spelled}
-use Rattle.text.specs.Text.{Sayable, Text, circuit, faulty, linesFault, malformed, readText}
+use Rattle.text.specs.Text.{Sayable, Text, circuit, faulty, linesFault, readText}
 use Rattle.text.specs.Written.{countsLine, gateLine, gateLines, refusedLine, textOf, wiresLine}
 use Rattle.text.specs.declared.TextReply.{TextReply}
 use Rattle.text.specs.declared.TextReply.the-variants.{Done, Refused}

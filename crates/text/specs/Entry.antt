@@ -7,7 +7,7 @@ use lib.Dec.{ltb}
 use lib.ListN.{length}
 use Rattle.circuit.specs.Faults.{lentOutput}
 use Rattle.circuit.specs.Limits.{gateBytes, maxListBytes}
-use Rattle.text.specs.Placed.{placed}
+use Rattle.circuit.specs.Lent.{placed}
 use Rattle.text.specs.Text.{Text, circuit, faulty, readText}
 use Rattle.text.specs.declared.TextReply.{TextReply}
 use Rattle.text.specs.declared.TextReply.the-variants.{Done, Refused}

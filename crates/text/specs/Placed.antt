@@ -4,10 +4,7 @@ use mathlib.Core.Path.{_≡_}
 use Prim.Native.Nat.{_*_, _+_, ℕ}
 use lib.ListN.{drop, length, take}
 use Rattle.circuit.specs.Limits.{gateBytes}
-
--- `bytes` from place `at` on; every other byte as it was
-abbrev pub placed : List ℕ → ℕ → List ℕ → List ℕ
-placed was at bytes = take at was ++ bytes ++ drop (at + length bytes) was
+use Rattle.circuit.specs.Lent.{placed}
 
 -- a function that stores gates from the start of what is lent, three bytes each, and gives back their number
 pub record Stores (was bytes left : List ℕ) (count : ℕ) : Type 0 where

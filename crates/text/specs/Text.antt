@@ -5,16 +5,12 @@ use mathlib.Core.Path.{_≡_}
 use Prim.Native.Nat.{_%_, _+_, _<_, _≤_, suc, ℕ}
 use lib.Dec.{ltb}
 use lib.ListN.{getD, length}
-use Rattle.circuit.specs.Faults.{listLength, refuse, wiresFault}
+use Rattle.circuit.specs.Faults.{listLength, malformed, refuse, wiresFault}
 use Rattle.circuit.specs.Limits.{gateBytes, maxGates, maxListBytes, maxWires}
 use Rattle.circuit.specs.declared.Reply.{Reply}
 use Rattle.circuit.specs.declared.Reply.the-variants.{Done, Refused}
 use Rattle.text.specs.Limits.{byteValues, gateDigits, wiresDigits}
 use Rattle.text.specs.Lines.{Line, formed, lineSpells, linesOf, linesSpell}
-
--- the table's number of a malformed line
-abbrev pub malformed : ℕ
-malformed = 9
 
 -- n, of line one
 abbrev pub wiresIn : Line → ℕ

@@ -10,15 +10,16 @@ use Rattle.circuit.specs.Limits.{gateBytes, maxMembers, maxWires, moveCells, pa
 use Rattle.circuit.specs.OddSet.{members, oddSet}
 use Rattle.circuit.specs.Read.{Reading, read}
 use Rattle.circuit.specs.Sound.{SoundMarks, SoundReading, SoundRows, SoundWeights}
+use Rattle.circuit.specs.Lent.{KeptFrom, frontGates}
 use Rattle.moves.proofs.Laws.{limits-suffice}
 use Rattle.moves.specs.Log.{logged}
 use Rattle.moves.specs.Replay.{Replays}
 use Rattle.phase.proofs.Laws.{new-weights-sound}
 use Rattle.phase.specs.NewWeights.{newWeights}
-use Rattle.synth.specs.Entry.{Wrote, WroteBytes, frontGates}
+use Rattle.synth.specs.Entry.{Wrote, WroteBytes}
 use Rattle.trimmer.proofs.Making.{still-sound}
 use Rattle.trimmer.proofs.Whole.{odd-set-sound, whole}
-use Rattle.trimmer.specs.Entry.{Done-with, KeptFrom, Writes-read, writtenOf}
+use Rattle.trimmer.specs.Entry.{Done-with, Writes-read, writtenOf}
 use Rattle.trimmer.specs.Steps.{AllMade}
 use Rattle.trimmer.specs.Trimmed.{Trimmed, oddSetOf, weightsOf}
 use Rattle.trimmer.specs.declared.Counts.{Counts}

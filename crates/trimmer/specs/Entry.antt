@@ -3,7 +3,7 @@ use mathlib.Core.List.{List}
 use mathlib.Core.Path.{_≡_}
 use Prim.Native.Nat.{_*_, ℕ}
 use lib.ListN.{drop, length, take}
-use Rattle.circuit.specs.Faults.{firstFault, listFault, orElse, refuse, shortFault, wiresFault}
+use Rattle.circuit.specs.Faults.{firstFault, listCallFault, listFault, orElse, refuse, shortFault, wiresFault}
 use Rattle.circuit.specs.Gate.{Gate, gatesOf}
 use Rattle.circuit.specs.Limits.{gateBytes, logCells, maxWires, moveCells, writeBytes}
 use Rattle.circuit.specs.Read.{read}
@@ -13,24 +13,16 @@ use Rattle.trimmer.specs.declared.Counts.{Counts}
 use Rattle.trimmer.specs.declared.TrimReply.{TrimReply}
 use Rattle.trimmer.specs.declared.TrimReply.the-variants.{Done, Refused}
 use Rattle.circuit.specs.declared.Reply.{Reply}
+use Rattle.circuit.specs.Lent.{KeptFrom, frontGates}
 use Rattle.circuit.specs.declared.Reply.the-variants as reply
 
 -- 1, 2 and 8, by the lengths of the list, the gates lent and the log lent
 unfoldable pub trimFault : ℕ → ℕ → ℕ → ℕ → ℕ
-trimFault n bytes out log = orElse (wiresFault n) (orElse (listFault bytes) (orElse (shortFault out writeBytes) (shortFault log logCells)))
+trimFault n bytes out log = listCallFault n bytes (orElse (shortFault out writeBytes) (shortFault log logCells))
 
 -- the first fault, from what goes in alone: 1, 2, 8, then 3, 4, 5 by gate; nothing else is refused
 abbrev pub verdict : ℕ → List ℕ → ℕ → ℕ → Reply
 verdict n bytes out log = refuse (trimFault n (length bytes) out log) 0 (firstFault n 0 (gatesOf bytes))
-
--- the gates of D: the first of the bytes that were lent for them
-abbrev pub writtenOf : List ℕ → ℕ → List Gate
-writtenOf out count = gatesOf (take (gateBytes * count) out)
-
--- a lent buffer after a call: as long as it was, and from place k on as it was
-pub record KeptFrom (k : ℕ) (was left : List ℕ) : Type 0 where
-  pub long : length left ≡ length was
-  pub rest : drop k left ≡ drop k was
 
 -- what the papers say of a written list holds of this one, for the weights and rows that reading it gives
 abbrev pub Writes-read : ℕ → List Gate → Type 0
@@ -38,9 +30,9 @@ Writes-read n D = Wrote maxWires n (read maxWires n D .weights) (read maxWires n
 
 -- an accepted C is trimmed
 pub record Done-with (n : ℕ) (bytes out log out′ log′ : List ℕ) (counts : Counts) : Type 0 where
-  pub trimmed : Trimmed n (gatesOf bytes) (writtenOf out′ (counts .gates)) log′ counts
+  pub trimmed : Trimmed n (gatesOf bytes) (frontGates (counts .gates) out′) log′ counts
   -- and D is written as any list is: each weight in its spelling, and at most n * 2^n + n * n gates
-  pub written : Writes-read n (writtenOf out′ (counts .gates))
+  pub written : Writes-read n (frontGates (counts .gates) out′)
   -- bytes after the last gate, and after the last move, stay untouched
   pub gates-kept : KeptFrom (gateBytes * counts .gates) out out′
   pub log-kept : KeptFrom (moveCells * counts .moves) log log′

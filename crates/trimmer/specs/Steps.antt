@@ -5,6 +5,7 @@ use mathlib.Core.Path.{_≡_}
 use Prim.Native.Nat.{_*_, _+_, ℕ}
 use lib.ListN.{drop, length}
 use Rattle.circuit.specs.Limits.{maxMembers, moveCells}
+use Rattle.circuit.specs.Lent.{KeptFrom}
 use Rattle.moves.specs.CarryOut.{carryOut}
 use Rattle.moves.specs.Log.{LegalCells, logged, setOf, zOf}
 use Rattle.moves.specs.Move.{Legal}
@@ -24,8 +25,7 @@ pub record Stepped (n : ℕ) (marks f : List ℕ) (k : ℕ) (marks′ : List ℕ
 -- from the marks m and the log before, k moves have been made
 pub record Made (n : ℕ) (m before : List ℕ) (k : ℕ) (marks log : List ℕ) : Type 0 where
   pub replayed : Replays maxMembers n m (logged moveCells log k) marks
-  pub long : length log ≡ length before
-  pub rest : drop (moveCells * k) log ≡ drop (moveCells * k) before
+  pub kept : KeptFrom (moveCells * k) before log
 
 -- all legal moves made: k of them, and none is left
 pub record AllMade (n : ℕ) (m before : List ℕ) (k : ℕ) (marks log : List ℕ) : Type 0 where

@@ -8,7 +8,7 @@ use Rattle.circuit.specs.Gate.{Gate, tGates}
 use Rattle.circuit.specs.Limits.{maxMembers, maxWires, moveCells, parities}
 use Rattle.circuit.specs.OddSet.{members, oddSet}
 use Rattle.circuit.specs.Read.{read}
-use Rattle.circuit.specs.Run.{run}
+use Rattle.circuit.specs.Run.{SameAction, run}
 use Rattle.moves.specs.Log.{logged}
 use Rattle.moves.specs.Move.{Legal}
 use Rattle.moves.specs.Replay.{Replays}
@@ -26,7 +26,7 @@ pub record Trimmed (n : ℕ) (C D : List Gate) (log : List ℕ) (counts : Counts
   -- D is a circuit on the same wires
   pub formed : AllWellFormed n D
   -- D sends each of the 2^n basis states to the same state with the same phase modulo 8 as C
-  pub acts : (x : ℕ) → x < 2 ^ n → run D x ≡ run C x
+  pub acts : SameAction n C D
   -- D holds exactly the reported number of T and T dagger gates
   pub t-out : counts .tout ≡ tGates D
   -- one for each member of its odd set

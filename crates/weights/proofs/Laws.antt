@@ -16,10 +16,10 @@ use Rattle.phase.specs.Coefficients.{SamePhases, c, l, q}
 use Rattle.phase.specs.NewWeights.{MarksAndRest}
 use Rattle.phase.specs.Signature.{SameSignature}
 use Rattle.weights.proofs.Places.{c-place, l-place, q-place}
-use Rattle.weights.proofs.TableRule.{marks-sound, weights-sound}
+use Rattle.circuit.proofs.TableRule.{marks-sound, weights-sound}
 use Rattle.weights.proofs.Ways.{call-passes, passes-call}
 use Rattle.weights.specs.Entry.{CoefficientsOf, NewWeightsOf, OddSetOf, coefficientsFault, newWeightsFault, oddSetFault, replyOf, tablesFault}
-use Rattle.weights.specs.Faults.{marksFault, weightsFault}
+use Rattle.circuit.specs.TableFaults.{marksFault, weightsFault}
 
 -- ---- fault 6, exactly where weights or marks are not sound
 

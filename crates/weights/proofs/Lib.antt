@@ -1,7 +1,6 @@
 pub mod SignedSum
 pub mod Signed
 pub mod OneSum
-pub mod TableRule
 pub mod Ways
 pub mod Places
 pub mod Difference

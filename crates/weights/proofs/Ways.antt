@@ -12,9 +12,9 @@ use Rattle.circuit.specs.OddSet.{oddSet}
 use Rattle.circuit.specs.Sound.{SoundMarks, SoundWeights}
 use Rattle.circuit.specs.declared.Reply.the-variants.{Done, Refused}
 use Rattle.phase.specs.NewWeights.{newWeights}
-use Rattle.weights.proofs.TableRule.{marks-sound, weights-sound}
+use Rattle.circuit.proofs.TableRule.{marks-sound, weights-sound}
 use Rattle.weights.specs.Entry.{CoefficientsOf, NewWeightsOf, OddSetOf, coefficientsFault, newWeightsFault, oddSetFault, replyOf, tablesFault}
-use Rattle.weights.specs.Faults.{callFault, marksFault, weightsFault}
+use Rattle.circuit.specs.TableFaults.{callFault, marksFault, weightsFault}
 use Rattle.weights.specs.Tables.{TablesFit, TablesOf}
 
 -- a call's fault f is the one that the definition g gives

@@ -4,18 +4,13 @@ use mathlib.Core.Path.{_≡_}
 use Prim.Native.Nat.{ℕ}
 use lib.ListN.{length}
 use Rattle.circuit.specs.Entry.{after}
-use Rattle.circuit.specs.Faults.{lentFault, orElse, refuse}
+use Rattle.circuit.specs.Faults.{callReply, lentFault, orElse}
 use Rattle.circuit.specs.Limits.{maxWires, pairBytes, parities, tableBytes, tripleBytes}
 use Rattle.circuit.specs.OddSet.{oddSet}
 use Rattle.circuit.specs.declared.Reply.{Reply}
-use Rattle.circuit.specs.declared.Reply.the-variants.{Done}
 use Rattle.phase.specs.NewWeights.{newWeights}
-use Rattle.weights.specs.Faults.{callFault, marksFault, weightsFault}
+use Rattle.circuit.specs.TableFaults.{callFault, marksFault, weightsFault}
 use Rattle.weights.specs.Tables.{cTable, lTable, qTable}
-
--- a fault of a call, which has place 0, or none
-abbrev pub replyOf : ℕ → Reply
-replyOf fault = refuse fault 0 Done
 
 -- ---- odd_set
 
@@ -25,7 +20,7 @@ oddSetFault n w marks = callFault n (lentFault marks tableBytes) (weightsFault n
 
 -- `odd_set`, called with these weights and marks, replies r and leaves marks′
 pub record OddSetOf (n : ℕ) (weights marks marks′ : List ℕ) (r : Reply) : Type 0 where
-  pub reply : r ≡ replyOf (oddSetFault n weights (length marks))
+  pub reply : r ≡ callReply (oddSetFault n weights (length marks))
   pub marks-left : marks′ ≡ after r (oddSet weights) marks
 
 -- ---- coefficients
@@ -40,7 +35,7 @@ coefficientsFault n w l q c = callFault n (tablesFault l q c) (weightsFault n w)
 
 -- `coefficients`, called with these weights and tables, replies r and leaves l′, q′ and c′
 pub record CoefficientsOf (n : ℕ) (weights l q c l′ q′ c′ : List ℕ) (r : Reply) : Type 0 where
-  pub reply : r ≡ replyOf (coefficientsFault n weights (length l) (length q) (length c))
+  pub reply : r ≡ callReply (coefficientsFault n weights (length l) (length q) (length c))
   pub l-left : l′ ≡ after r (lTable maxWires n weights) l
   pub q-left : q′ ≡ after r (qTable maxWires n weights) q
   pub c-left : c′ ≡ after r (cTable maxWires n weights) c
@@ -49,9 +44,9 @@ pub record CoefficientsOf (n : ℕ) (weights l q c l′ q′ c′ : List ℕ) (r
 
 -- 1, 8, 6, by the weights, the marks and the length of the output lent
 abbrev pub newWeightsFault : ℕ → List ℕ → List ℕ → ℕ → ℕ
-newWeightsFault n w marks out = callFault n (lentFault out tableBytes) (orElse (weightsFault n w) (marksFault n marks))
+newWeightsFault n w marks out = orElse (callFault n (lentFault out tableBytes) (weightsFault n w)) (marksFault n marks)
 
 -- `new_weights`, called with these weights, marks and output, replies r and leaves out′
 pub record NewWeightsOf (n : ℕ) (weights marks out out′ : List ℕ) (r : Reply) : Type 0 where
-  pub reply : r ≡ replyOf (newWeightsFault n weights marks (length out))
+  pub reply : r ≡ callReply (newWeightsFault n weights marks (length out))
   pub out-left : out′ ≡ after r (newWeights parities n weights marks) out

@@ -1,5 +1,4 @@
 pub mod Sums
-pub mod Faults
 pub mod Tables
 pub mod Rests
 pub mod Entry

@@ -1,7 +1,7 @@
 -- The three checks in their order.
 use mathlib.Core.Path.{ap₂, _∙_}
 use borrow.Author.Needs.{needs}
-use Rattle.weights.specs.Faults.{callFault}
+use Rattle.circuit.specs.TableFaults.{callFault}
 use Rattle.carry.proofs.carry_fault.Statement.{statement}
 use Rattle.carry.proofs.carry_fault.Tie as tie
 

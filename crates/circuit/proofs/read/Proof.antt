@@ -45,11 +45,11 @@ read-gates-requires c κs =
     let k = c .before .before .first-fault in
     may-read (a .n) (now (a .gates)) (now (a .weights)) (now (a .rows)) (f .result) (f .ensures) (omega arith) (k .result) (k .ensures) (c .enum-told .given .1)
 
-slice-aggregate-copy-into : tie.Need-slice-aggregate-copy-into
-slice-aggregate-copy-into c = search needs
+slice-aggregate-copy-bytes : tie.Need-slice-aggregate-copy-bytes
+slice-aggregate-copy-bytes c = search needs
 
-copy-into-requires : tie.Need-copy-into-requires
-copy-into-requires c κs =
+copy-bytes-requires : tie.Need-copy-bytes-requires
+copy-bytes-requires c κs =
     let after-read-gates : tie.After-read-gates = search in
     let after-first-fault : tie.After-first-fault = search in
     let start : tie.Start = search in
@@ -61,11 +61,11 @@ copy-into-requires c κs =
     weights-fit (a .n) (now (a .gates)) (now (a .weights)) (now (a .rows)) (f .read-fault .result) (f .read-fault .ensures) (omega arith)
     (k .first-fault .result) (k .first-fault .ensures) (t .before .enum-told .given .1) (r .result .weights) (r .result .rows) (r .ensures)
 
-slice-aggregate-copy-into-2 : tie.Need-slice-aggregate-copy-into-2
-slice-aggregate-copy-into-2 c = search needs
+slice-aggregate-copy-parities : tie.Need-slice-aggregate-copy-parities
+slice-aggregate-copy-parities c = search needs
 
-copy-into-requires-2 : tie.Need-copy-into-requires-2
-copy-into-requires-2 c κs =
+copy-parities-requires : tie.Need-copy-parities-requires
+copy-parities-requires c κs =
     let after-read-gates : tie.After-read-gates = search in
     let after-first-fault : tie.After-first-fault = search in
     let start : tie.Start = search in
@@ -85,7 +85,7 @@ same-length-2 c = search needs
 
 returns-3 : tie.Need-returns-3
 returns-3 c =
-    let after-copy-into : tie.After-copy-into = search in
+    let after-copy-bytes : tie.After-copy-bytes = search in
     let after-read-gates : tie.After-read-gates = search in
     let after-first-fault : tie.After-first-fault = search in
     let start : tie.Start = search in
@@ -96,7 +96,7 @@ returns-3 c =
     let r = t .read-gates in
     read-done (a .n) (now (a .gates)) (now (a .weights)) (now (a .rows)) (f .read-fault .result) (f .read-fault .ensures) (omega (arith, k .before .if1 .left))
     (k .first-fault .result) (k .first-fault .ensures) (t .before .enum-told .given .1) (r .result .weights) (r .result .rows) (r .ensures) _ _
-    (after-copy-into .copy-into .ensures) (c .before .before .copy-into2 .ensures)
+    (after-copy-bytes .copy-bytes .ensures) (c .before .before .copy-parities .ensures)
 
 pub read-spec : {M : Type 1} → statement M
 read-spec =
@@ -109,10 +109,10 @@ read-spec =
     returns-2
     enum-told
     read-gates-requires
-    slice-aggregate-copy-into
-    copy-into-requires
-    slice-aggregate-copy-into-2
-    copy-into-requires-2
+    slice-aggregate-copy-bytes
+    copy-bytes-requires
+    slice-aggregate-copy-parities
+    copy-parities-requires
     same-length
     same-length-2
     returns-3)

@@ -1,5 +1,7 @@
 -- One look-up, for y without wire t and for y with it.
 use borrow.Author.Needs.{needs}
+use lib.Bits.{xor-lt}
+use Rattle.circuit.specs.Limits.{maxWires}
 use Rattle.columns.proofs.Wires.{column-with, column-without}
 use Rattle.columns.proofs.column.Statement.{statement}
 use Rattle.columns.proofs.column.Tie as tie
@@ -15,11 +17,15 @@ product-requires c κs = search needs
 
 returns : tie.Need-returns
 returns c =
-    let a = c .before .before .args in
-    column-without (a .z) (a .t) (a .y) (c .product .result) (c .before .before .pre .1) (c .before .if1 .taken) (c .product .ensures)
+    let t : tie.Then1 = search in
+    let s : tie.Start = search in
+    let a = s .args in
+    column-without (a .z) (a .t) (a .y) (c .product .result) (s .pre .1 .0) (t .if1 .taken) (c .product .ensures)
 
 product-requires-2 : tie.Need-product-requires-2
-product-requires-2 c κs = search needs
+product-requires-2 c κs =
+    let s : tie.Start = search in
+    (s .pre .0, xor-lt maxWires (s .args .y) (s .args .z) (s .pre .1 .2) (s .pre .1 .1))
 
 place-requires : tie.Need-place-requires
 place-requires c κs = search needs
@@ -29,9 +35,12 @@ shl-result c = search needs
 
 returns-2 : tie.Need-returns-2
 returns-2 c =
-    let a = c .before .before .before .args in
-    column-with (a .z) (a .t) (a .y) (c .before .product2 .result) (c .place .result) (c .before .before .before .pre .1) (c .before .before .if1 .left)
-    (c .before .product2 .ensures) (c .place .ensures .0) (c .place .ensures .1)
+    let p : tie.After-product2 = search in
+    let e : tie.Else1 = search in
+    let s : tie.Start = search in
+    let a = s .args in
+    column-with (a .z) (a .t) (a .y) (p .product2 .result) (c .place .result) (s .pre .1 .0) (e .if1 .left)
+    (p .product2 .ensures) (c .place .ensures .0) (c .place .ensures .1)
 
 pub column-spec : {M : Type 1} → statement M
 column-spec =

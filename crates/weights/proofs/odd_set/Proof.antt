@@ -5,7 +5,7 @@ use denote.Ref.{now}
 use lib.ListN.{length}
 use Rattle.weights.proofs.Ways.{odd-done, odd-fits, odd-refused}
 use Rattle.weights.specs.Entry.{oddSetFault}
-use Rattle.weights.specs.Faults.{callFault}
+use Rattle.circuit.specs.TableFaults.{callFault}
 use Rattle.weights.proofs.odd_set.Statement.{statement}
 use Rattle.weights.proofs.odd_set.Tie as tie
 

@@ -1,17 +1,13 @@
 -- The entry that the table has for p.
-use native.Mathlib.Omega.{arith}
 use borrow.Author.Needs.{needs}
 use Rattle.columns.proofs.table.product.Statement.{statement}
 use Rattle.columns.proofs.table.product.Tie as tie
 
-mul-result : tie.Need-mul-result
-mul-result c = search needs
-
-element-copy-out-result : tie.Need-element-copy-out-result
-element-copy-out-result c = search needs
-
 returns : tie.Need-returns
-returns c = c .before .pre .entries (c .before .args .p) (omega arith)
+returns c =
+    let i : tie.After-index-of = search in
+    let s : tie.Start = search in
+    rw (i .index-of .ensures .0) (s .pre .0 .entries (s .args .p) (s .pre .1))
 
 pub product-spec : {M : Type 1} → statement M
-product-spec = tie.close (tie.spec mul-result element-copy-out-result returns)
+product-spec = tie.close (tie.spec (λ c κs. search needs) (λ c. search needs) (λ c. search needs) returns)

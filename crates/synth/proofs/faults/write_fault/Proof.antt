@@ -3,8 +3,8 @@ use mathlib.Core.Path.{ap₂, sym, _∙_, _≡_}
 use native.Mathlib.Omega.{arith}
 use borrow.Author.Needs.{needs}
 use denote.Ref.{now}
-use Rattle.weights.proofs.Ways.{call-passes}
-use Rattle.weights.specs.Faults.{callFault, weightsFault}
+use Rattle.circuit.proofs.TableRule.{call-passes}
+use Rattle.circuit.specs.TableFaults.{callFault, weightsFault}
 use Rattle.synth.proofs.WriteWays.{call-refuses, rows-decide}
 use Rattle.circuit.specs.Faults.{shortFault}
 use Rattle.circuit.specs.Limits.{writeBytes}

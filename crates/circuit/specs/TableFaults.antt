@@ -3,13 +3,9 @@ use mathlib.Core.List.{List, [], _∷_}
 use Prim.Native.Nat.{_^_, suc, ℕ}
 use lib.Dec.{eqb, leb, ltb}
 use lib.ListN.{length}
-use Rattle.circuit.specs.Faults.{orElse, wiresFault}
+use Rattle.circuit.specs.Faults.{orElse, tableRule, wiresFault}
 use Rattle.circuit.specs.Limits.{maxMark, maxWeight, tableBytes}
 use Rattle.circuit.specs.Read.{either}
-
--- weights or odd set of another length than theirs, or a byte against its rule
-abbrev pub tableRule : ℕ
-tableRule = 6
 
 -- the most that may stand at p: 0 at 0 and from 2^n up, else what the table allows
 abbrev pub mostAt : ℕ → ℕ → ℕ → ℕ

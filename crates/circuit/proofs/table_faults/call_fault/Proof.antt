@@ -1,9 +1,9 @@
 -- Faults 1, 8 and 6, one after the other.
 use mathlib.Core.Path.{ap₂, _∙_}
 use borrow.Author.Needs.{needs}
 use Rattle.circuit.specs.Faults.{orElse}
-use Rattle.weights.proofs.faults.call_fault.Statement.{statement}
-use Rattle.weights.proofs.faults.call_fault.Tie as tie
+use Rattle.circuit.proofs.table_faults.call_fault.Statement.{statement}
+use Rattle.circuit.proofs.table_faults.call_fault.Tie as tie
 
 wires-fault-requires : tie.Need-wires-fault-requires
 wires-fault-requires c κs = search needs

@@ -6,8 +6,8 @@ use lib.ListN.{getD, length, length-set}
 use borrow.Author.Needs.{needs}
 use denote.Ref.{now}
 use Rattle.gf2.proofs.Table.{Filled, filled-all, filled-next, filled-none}
-use Rattle.circuit.proofs.copy_into.Statement.{statement}
-use Rattle.circuit.proofs.copy_into.Tie as tie
+use Rattle.circuit.proofs.copying.copy_bytes.Statement.{statement}
+use Rattle.circuit.proofs.copying.copy_bytes.Tie as tie
 
 abbrev Inv-loop : tie.InvT-loop
 Inv-loop source target₀ j₀ target j = (j ≤ length source) × (length target ≡ length target₀) × Filled target source j
@@ -46,8 +46,8 @@ returns c =
     let at = c .before in
     filled-all (at .loop .target) (now (at .before .args .source)) (at .loop .j) (omega arith) (omega arith) (at .loop .inv .2)
 
-pub copy-into-spec : {M : Type 1} → statement M
-copy-into-spec =
+pub copy-bytes-spec : {M : Type 1} → statement M
+copy-bytes-spec =
     tie.close
     (tie.spec
     Inv-loop

@@ -1,7 +1,7 @@
 -- Fault 6: the steps of the code that finds it, and that there is none exactly where weights, or marks, are sound.
 use mathlib.Core.List.{List, [], _∷_}
 use mathlib.Core.Logic.{_≢_, _↔_}
-use mathlib.Core.Path.{refl, sym, _∙_, _≡_}
+use mathlib.Core.Path.{ap, refl, sym, _∙_, _≡_}
 use Prim.Native.Nat.{_+_, _<_, _^_, suc, zero, ℕ, _≤_}
 use native.Mathlib.Decide.{decLe, decLt, ℕ-discrete}
 use native.Mathlib.Nat.{add-zero}
@@ -10,11 +10,12 @@ use native.Mathlib.Omega.{arith}
 use lib.ListN.{List·getD-eq-default, drop, getD, length}
 use lib.Seq.{drop-cons}
 use borrow.Author.Tests.{eq-eqb, le-leb, le-ltb, lt-leb, lt-ltb, ne-eqb}
-use Rattle.circuit.proofs.Judging.{or-pass, or-well}
-use Rattle.circuit.specs.Faults.{orElse}
-use Rattle.circuit.specs.Limits.{maxMark, maxWeight}
+use Rattle.circuit.proofs.Judging.{or-pass, or-well, refused, wires-pass, wires-well}
+use Rattle.circuit.specs.Faults.{callReply, orElse, tableRule, wiresFault}
+use Rattle.circuit.specs.Limits.{maxMark, maxWeight, maxWires}
 use Rattle.circuit.specs.Sound.{SoundMarks, SoundWeights, weight}
-use Rattle.weights.specs.Faults.{byteFault, bytesFault, mostAt, tableFault, tableRule}
+use Rattle.circuit.specs.TableFaults.{byteFault, bytesFault, callFault, mostAt, tableFault}
+use Rattle.circuit.specs.declared.Reply.the-variants.{Done, Refused}
 
 -- ---- one byte
 
@@ -166,3 +167,24 @@ marks-sound size n marks = (
       },
   λ s. table-well size n maxMark marks (s .long) (ruled n maxMark marks (λ p. omega (arith, s .bits p)) (s .none) (s .high)),
 )
+
+-- ---- a call that brings weights or marks
+
+-- no fault: each check has passed
+pub call-passes : (n lent table : ℕ) → callFault n lent table ≡ 0 → (1 ≤ n) × (n ≤ maxWires) × (lent ≡ 0) × (table ≡ 0)
+call-passes n lent table e =
+    let a = or-pass (wiresFault n) (orElse lent table) e in
+    let b = or-pass lent table (a .1) in
+    let w = wires-pass n (a .0) in
+    (w .0, w .1, b .0, b .1)
+
+pub passes-call : (n lent table : ℕ) → 1 ≤ n → n ≤ maxWires → lent ≡ 0 → table ≡ 0 → callFault n lent table ≡ 0
+passes-call n lent table a b e f = or-well (wiresFault n) (orElse lent table) (wires-well n a b) (or-well lent table e f)
+
+-- a call's fault f is the one that the definition g gives: it is refused so, or the call is done
+module _ (f g : ℕ) (e : f ≡ g) where
+  pub call-refusal : f ≢ 0 → Refused f 0 ≡ callReply g
+  call-refusal h = sym (refused f 0 Done h) ∙ ap callReply e
+
+  pub call-done : f ≡ 0 → Done ≡ callReply g
+  call-done z = rw (← e, z)

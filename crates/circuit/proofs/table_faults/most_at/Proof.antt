@@ -2,11 +2,11 @@
 use native.Mathlib.Omega.{arith}
 use lib.Pow.{pow-mono}
 use borrow.Author.Needs.{needs}
 use Rattle.circuit.proofs.Steps.{shifted}
 use Rattle.circuit.specs.Limits.{maxWires}
-use Rattle.weights.proofs.TableRule.{most-at-none, most-beyond, most-inside}
-use Rattle.weights.proofs.faults.most_at.Statement.{statement}
-use Rattle.weights.proofs.faults.most_at.Tie as tie
+use Rattle.circuit.proofs.TableRule.{most-at-none, most-beyond, most-inside}
+use Rattle.circuit.proofs.table_faults.most_at.Statement.{statement}
+use Rattle.circuit.proofs.table_faults.most_at.Tie as tie
 
 returns : tie.Need-returns
 returns c = let a = c .before .args in most-at-none (a .n) (a .most) (a .p) (c .if1 .taken)

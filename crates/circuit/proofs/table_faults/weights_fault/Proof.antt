@@ -1,7 +1,7 @@
 -- A table whose bytes are at most a weight's most.
 use borrow.Author.Needs.{needs}
-use Rattle.weights.proofs.faults.weights_fault.Statement.{statement}
-use Rattle.weights.proofs.faults.weights_fault.Tie as tie
+use Rattle.circuit.proofs.table_faults.weights_fault.Statement.{statement}
+use Rattle.circuit.proofs.table_faults.weights_fault.Tie as tie
 
 table-fault-requires : tie.Need-table-fault-requires
 table-fault-requires c κs = search needs

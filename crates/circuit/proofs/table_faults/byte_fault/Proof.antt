@@ -1,9 +1,9 @@
 -- One byte against the most that may stand at its place.
 use native.Mathlib.Omega.{arith}
 use borrow.Author.Needs.{needs}
-use Rattle.weights.proofs.TableRule.{byte-bad, byte-well}
-use Rattle.weights.proofs.faults.byte_fault.Statement.{statement}
-use Rattle.weights.proofs.faults.byte_fault.Tie as tie
+use Rattle.circuit.proofs.TableRule.{byte-bad, byte-well}
+use Rattle.circuit.proofs.table_faults.byte_fault.Statement.{statement}
+use Rattle.circuit.proofs.table_faults.byte_fault.Tie as tie
 
 most-at-requires : tie.Need-most-at-requires
 most-at-requires c κs = search needs

@@ -5,11 +5,11 @@ use native.Mathlib.Omega.{arith}
 use lib.ListN.{drop, length}
 use borrow.Author.Needs.{needs}
 use denote.Ref.{now}
 use Rattle.circuit.specs.Limits.{parities, tableBytes}
-use Rattle.weights.proofs.TableRule.{fault-after, fault-at, long-table, none-left, other-length}
-use Rattle.weights.specs.Faults.{bytesFault}
-use Rattle.weights.proofs.faults.table_fault.Statement.{statement}
-use Rattle.weights.proofs.faults.table_fault.Tie as tie
+use Rattle.circuit.proofs.TableRule.{fault-after, fault-at, long-table, none-left, other-length}
+use Rattle.circuit.specs.TableFaults.{bytesFault}
+use Rattle.circuit.proofs.table_faults.table_fault.Statement.{statement}
+use Rattle.circuit.proofs.table_faults.table_fault.Tie as tie
 
 abbrev Inv-loop : tie.InvT-loop
 Inv-loop n most table p₀ p = (p ≤ length table) × (length table ≡ tableBytes) × (bytesFault n most p (drop p table) ≡ bytesFault n most 0 table)
