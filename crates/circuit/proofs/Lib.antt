@@ -1,5 +1,6 @@
 pub mod Bytes
 pub mod Filling
+pub mod Placing
 pub mod Widths
 pub mod GateKinds
 pub mod Sound
