@@ -10,9 +10,10 @@ use lib.ListN.{getD, length, length-map, length-replicate, replicate, set}
 use lib.Pow.{pow-pos}
 use lib.Seq.{getD-set-other, getD-set-same}
 use Rattle.gf2.proofs.Bit.{bit-of-zero}
-use Rattle.gf2.proofs.Combination.{getD-zeros, map-set, span-all}
+use Rattle.gf2.proofs.Combination.{map-set, span-all}
 use Rattle.gf2.proofs.Echelon.{filled-echelon, filled-has, filled-keeps, reached-filled, reached-zero, stopped-none}
 use Rattle.gf2.proofs.Selection.{combine-none}
+use Rattle.gf2.proofs.Table.{getD-zeros}
 use Rattle.gf2.specs.Bit.{bit}
 use Rattle.gf2.specs.Echelon.{Basis, Echelon, Inserted, Reached, Span, Stopped}
 use Rattle.gf2.specs.Over.{xorAll}

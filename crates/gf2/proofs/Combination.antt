@@ -6,7 +6,7 @@ use native.Mathlib.Nat.{mul-zero, zero-mul}
 use native.Mathlib.Numerals.{add-one}
 use native.Mathlib.Omega.{arith}
 use lib.Bits.{bitXor, xor-self, xor-zero-l, xor-zero-r}
-use lib.ListN.{getD, length, replicate, set}
+use lib.ListN.{getD, length, set}
 use lib.Pow.{field, mod-mod-pow}
 use Rattle.gf2.proofs.Bit.{bit-of-zero, bit-scale, bit-xor}
 use Rattle.gf2.proofs.Selection.{combine-none, combine-scale, combine-set, combine-xor}
@@ -75,12 +75,6 @@ pub getD-map : (f : ℕ → ℕ) (ys : List ℕ) (i : ℕ) → i < length ys →
 getD-map f [] i l = absurd (omega arith)
 getD-map f (y ∷ ys) zero l = refl
 getD-map f (y ∷ ys) (suc i) l = getD-map f ys i (omega arith)
-
--- a list of zeros
-pub getD-zeros : (k i : ℕ) → _≡_ {A = ℕ} (getD (replicate k 0) i 0) 0
-getD-zeros zero i = refl
-getD-zeros (suc k) zero = refl
-getD-zeros (suc k) (suc i) = getD-zeros k i
 
 -- ---- the span of a list
 

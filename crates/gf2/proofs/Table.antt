@@ -5,7 +5,7 @@ use Prim.Native.Nat.{_%_, _*_, _+_, _/_, _<_, suc, zero, ℕ, _≤_}
 use native.Mathlib.Decide.{ℕ-discrete}
 use native.Mathlib.Nat.{div-add-mod', mod-add-mod}
 use native.Mathlib.Omega.{arith}
-use lib.ListN.{getD, length, length-set, set}
+use lib.ListN.{getD, length, length-set, replicate, set}
 use lib.Seq.{ext-getD, getD-set-other, getD-set-same}
 use Rattle.gf2.proofs.Modular.{mod-by}
 use Rattle.gf2.proofs.Sum.{sum-ext, sum-update}
@@ -38,6 +38,12 @@ unfolding tabulate
 getD-tabulate zero f i h = absurd (omega arith)
 getD-tabulate (suc k) f zero h = refl
 getD-tabulate (suc k) f (suc i) h = getD-tabulate k (λ j. f (suc j)) i (omega arith)
+
+-- a list of zeros
+pub getD-zeros : (k i : ℕ) → _≡_ {A = ℕ} (getD (replicate k 0) i 0) 0
+getD-zeros zero i = refl
+getD-zeros (suc k) zero = refl
+getD-zeros (suc k) (suc i) = getD-zeros k i
 
 -- ---- a table that a loop fills from the front
 

@@ -8,7 +8,7 @@ use native.Mathlib.Omega.{arith}
 use lib.ListN.{drop, getD, length, length-append, length-drop, length-replicate, replicate, set, take, take-append-drop}
 use lib.Seq.{drop-at, ext-getD, getD-append-add, getD-drop, length-take-le, set-append-seam, take-add, take-append-seam, take-at, take-take}
 use borrow.Author.Tests.{le-leb, lt-leb}
-use Rattle.gf2.proofs.Combination.{getD-zeros}
+use Rattle.gf2.proofs.Table.{getD-zeros}
 use Rattle.moves.specs.Log.{LegalCells, asCells, logged, moveAt, setOf, zOf}
 use Rattle.moves.specs.Move.{Legal}
 

@@ -11,11 +11,11 @@ use lib.Bits.{bitXor, xor-comm, xor-zero-r}
 use lib.ListN.{getD, length, length-replicate, length-set, replicate}
 use lib.Seq.{getD-set-other, getD-set-same}
 use Rattle.gf2.proofs.Bit.{bit-lt}
-use Rattle.gf2.proofs.Combination.{getD-map, getD-zeros}
+use Rattle.gf2.proofs.Combination.{getD-map}
 use Rattle.gf2.proofs.Over.{xorAll-more}
 use Rattle.gf2.proofs.Selection.{combine-first, combine-next}
 use Rattle.gf2.proofs.Sum.{sum-ext, sum-update, sum-zero}
-use Rattle.gf2.proofs.Table.{weightedSum-addAt}
+use Rattle.gf2.proofs.Table.{getD-zeros, weightedSum-addAt}
 use Rattle.gf2.specs.Bit.{bit}
 use Rattle.gf2.specs.Over.{sumOver, xorAll}
 use Rattle.gf2.specs.Selection.{combine}

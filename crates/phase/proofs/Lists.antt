@@ -1,7 +1,7 @@
 -- Weights as lists: sums over a list are sums over the 2 ^ n parities; a list made by `pad`; and sums over weights that are added modulo 8.
 use mathlib.Core.List.{_++_, List}
-use mathlib.Core.Path.{_≡_, ap, refl, sym, _∙_}
-use Prim.Native.Nat.{_%_, _*_, _+_, _-_, _<_, _^_, suc, zero, ℕ, _≤_}
+use mathlib.Core.Path.{_≡_, ap, sym, _∙_}
+use Prim.Native.Nat.{_%_, _*_, _+_, _-_, _<_, _^_, ℕ, _≤_}
 use native.Mathlib.Decide.{decLt}
 use native.Mathlib.Omega.{arith}
 use lib.ListN.{List·getD-append, getD, length, length-append, length-replicate, replicate}
@@ -11,7 +11,7 @@ use Rattle.circuit.specs.OddSet.{oddSet}
 use Rattle.circuit.specs.Sound.{SoundMarks, SoundWeights, weight}
 use Rattle.gf2.proofs.Modular.{mul-mod-l}
 use Rattle.gf2.proofs.Sum.{sum-add, sum-append, sum-ext, sum-mod, sum-zero}
-use Rattle.gf2.proofs.Table.{getD-tabulate, length-tabulate}
+use Rattle.gf2.proofs.Table.{getD-tabulate, getD-zeros, length-tabulate}
 use Rattle.gf2.specs.Sum.{sum}
 use Rattle.gf2.specs.Table.{tabulate, weightedSum}
 use Rattle.phase.specs.NewWeights.{pad}
@@ -52,11 +52,6 @@ weightedSum-wide n w s f =
     )
 
 -- ---- pad
-
-getD-zeros : (k i : ℕ) → _≡_ {A = ℕ} (getD (replicate k 0) i 0) 0
-getD-zeros zero i = refl
-getD-zeros (suc k) zero = refl
-getD-zeros (suc k) (suc i) = getD-zeros k i
 
 module _ (size n : ℕ) (f : ℕ → ℕ) where
   pub pad-length : 2 ^ n ≤ size → length (pad size n f) ≡ size
