@@ -22,7 +22,7 @@ use Rattle.moves.proofs.Even.{Even, even-add, even-by, even-scale}
 use Rattle.moves.proofs.Keep.{member-lt}
 use Rattle.moves.proofs.Products.{product-bit, product-lt}
 use Rattle.moves.proofs.Sets.{Rising, ascending, in-occ, listed-le, listed-length, listed-rising, occ, occ-below, rising-weaken}
-use Rattle.moves.specs.Move.{Balanced, Legal, Member, triple}
+use Rattle.moves.specs.Move.{Balanced, Legal, Member, NoneLegal, triple}
 use Rattle.moves.specs.Product.{product, tri}
 use Rattle.moves.specs.Sets.{In, listed, only}
 
@@ -194,7 +194,7 @@ module _ (size n most : ℕ) (marks : List ℕ) (sound : SoundMarks size n marks
       (λ p. omega (arith, take-sum (delta p) (suc (tri n)) M, sumOver-cons (delta p) b M, o p)) (omega arith)
       (t .0) (t .1) (rw long (t .2)) (t .3)
 
-  pub bound : ((z : ℕ) (Y : List ℕ) → Legal most n marks z Y → ⊥) → members marks ≤ tri n + 1
+  pub bound : NoneLegal most n marks → members marks ≤ tri n + 1
   unfolding members
   bound none = go (decLt (tri n + 1) (members marks))
     where

@@ -1,22 +1,19 @@
 -- A legal move keeps the signature, and leaves sound marks.
-use mathlib.Core.List.{List, map}
+use mathlib.Core.List.{List}
 use mathlib.Core.Path.{_∙_, _≡_, ap, refl, sym}
 use Prim.Native.Nat.{_%_, _*_, _+_, _<_, _^_, _≤_, suc, zero, ℕ}
 use native.Mathlib.Decide.{decLt}
 use native.Mathlib.Omega.{arith}
 use lib.Bits.{bitXor, xor-lt}
-use lib.ListN.{List·getD-eq-default, List·getD-map, getD, length, length-map}
+use lib.ListN.{List·getD-eq-default, getD, length}
 use lib.Pow.{pow-pos}
-use Rattle.circuit.specs.OddSet.{oddSet}
 use Rattle.circuit.specs.Sound.{SoundMarks, weight}
 use Rattle.gf2.proofs.Bit.{bit-lt, bit-of-zero}
 use Rattle.gf2.proofs.Cubic.{cubic}
-use Rattle.gf2.proofs.Modular.{mul-mod-l}
 use Rattle.gf2.proofs.Sum.{delta-other, sum-mod}
 use Rattle.gf2.proofs.Xor.{xor-cancel}
 use Rattle.gf2.specs.Bit.{bit}
 use Rattle.gf2.specs.Over.{Below, sumOver}
-use Rattle.gf2.specs.Sum.{sum}
 use Rattle.gf2.specs.Table.{weightedSum}
 use Rattle.phase.proofs.Sums.{signature-sums}
 use Rattle.phase.specs.Signature.{SameSignature}
@@ -69,18 +66,6 @@ same-signature n v w h =
       q = λ i j ij lj. let li : i < n = omega arith in third-two v i j ∙ h i i j li li lj ∙ sym (third-two w i j);
       c = λ i j k ij jk lk. h i j k (omega arith) (omega arith) lk;
     })
-
-odd-third : (w : List ℕ) (i j k : ℕ) → third (oddSet w) i j k ≡ third w i j k
-unfolding oddSet third weightedSum
-odd-third w i j k =
-    let c : ℕ → ℕ = λ p. bit p i * bit p j * bit p k in
-    ap (λ (m : ℕ). sum m (λ p. getD (map (λ x. x % 2) w) p 0 * c p) % 2) (length-map w (λ x. x % 2))
-    ∙ sum-mod 2 (length w) (λ p. getD (map (λ x. x % 2) w) p 0 * c p) (λ p. getD w p 0 * c p)
-    (λ p l. ap (λ (x : ℕ). x * c p % 2) (List·getD-map (λ x. x % 2) w p 0) ∙ mul-mod-l 2 (getD w p 0) (c p))
-
--- the odd set has the signature of the weights
-pub odd-set-signature : (n : ℕ) (w : List ℕ) → SameSignature n (oddSet w) w
-odd-set-signature n w = same-signature n (oddSet w) w (λ i j k li lj lk. odd-third w i j k)
 
 -- a z that separates members is below 2 ^ n
 pub separated-lt : (size n : ℕ) (marks : List ℕ) → SoundMarks size n marks → (z : ℕ) (Y : List ℕ) → ((y : ℕ) → In y Y → Member marks y) → Separates marks z Y → z < 2 ^ n

@@ -19,7 +19,7 @@ use Rattle.moves.proofs.Keep.{member-lt, y-lt}
 use Rattle.moves.proofs.OneXor.{balanced-iff}
 use Rattle.moves.proofs.Sets.{in-listed, in-occ, listed-ascending, listed-in, listed-length, listed-more, listed-occ, listed-sum, occ, occ-in, occ-once, occ-out, out-occ, rising, sumOver-occ}
 use Rattle.moves.specs.Kappa.{kappa}
-use Rattle.moves.specs.Move.{Legal, Member, Separates}
+use Rattle.moves.specs.Move.{Legal, Member, NoneLegal, Separates}
 use Rattle.moves.specs.Pair.{Offer, Other, Reach}
 use Rattle.moves.specs.Sets.{Ascending, In, listed}
 
@@ -185,7 +185,7 @@ legal-apart most n marks z Y legal e =
 
 -- where no two members are offered a move, none is legal
 pub none-offered : (most n : ℕ) (marks : List ℕ) → ((a b : ℕ) → Member marks a → Member marks b → a ≢ b → Offer most n marks a b → ⊥)
-    → (z : ℕ) (Y : List ℕ) → Legal most n marks z Y → ⊥
+    → NoneLegal most n marks
 none-offered most n marks none z Y legal =
     let s : Separates marks z Y = legal .separates in
     none (s .a) (s .b) (legal .marked (s .a) (s .a-in)) (s .b-member) (legal-apart most n marks z Y legal) (legal-offers most n marks z Y legal)
@@ -193,7 +193,7 @@ none-offered most n marks none z Y legal =
 -- a pair a < b both ways round is enough
 pub none-both : (most n : ℕ) (marks : List ℕ)
     → ((a b : ℕ) → Member marks a → Member marks b → a < b → (Offer most n marks a b → ⊥) × (Offer most n marks b a → ⊥))
-    → (z : ℕ) (Y : List ℕ) → Legal most n marks z Y → ⊥
+    → NoneLegal most n marks
 none-both most n marks none = none-offered most n marks (λ a b ma mb ne. go a b ma mb ne (decLt a b))
   where
     go : (a b : ℕ) → Member marks a → Member marks b → a ≢ b → Dec (a < b) → Offer most n marks a b → ⊥
@@ -204,7 +204,7 @@ none-both most n marks none = none-offered most n marks (λ a b ma mb ne. go a b
 pub none-reached : (size n most : ℕ) → 2 ^ n ≤ size → (marks : List ℕ) → SoundMarks size n marks
     → (low : ℕ → ℕ) → ((z : ℕ) → z ≢ 0 → z < 2 ^ n → (low z < n) × (bit z (low z) ≡ 1))
     → ((a b : ℕ) → Member marks a → Member marks b → a ≢ b → Reach most n (low (bitXor a b)) marks a b → ⊥)
-    → (z : ℕ) (Y : List ℕ) → Legal most n marks z Y → ⊥
+    → NoneLegal most n marks
 none-reached size n most room marks sound low is-low none =
     none-offered most n marks
     (λ a b ma mb ne o.

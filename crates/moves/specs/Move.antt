@@ -38,3 +38,7 @@ pub record Legal (most n : ℕ) (marks : List ℕ) (z : ℕ) (Y : List ℕ) : Ty
   pub marked : (y : ℕ) → In y Y → Member marks y
   pub separates : Separates marks z Y
   pub balanced : Balanced n z Y
+
+-- no z and Y make a legal move for these marks
+abbrev pub NoneLegal : ℕ → ℕ → List ℕ → Type 0
+NoneLegal most n marks = (z : ℕ) (Y : List ℕ) → Legal most n marks z Y → ⊥

@@ -24,7 +24,7 @@ use Rattle.gf2.specs.Table.{weightedSum}
 use Rattle.moves.proofs.Flips.{flip-bits, if-bits, if-length}
 use Rattle.moves.proofs.Sets.{listed-ext, listed-none, listed-sum}
 use Rattle.moves.specs.CarryOut.{flip, flipIf}
-use Rattle.moves.specs.Pair.{spell}
+use Rattle.moves.specs.Pair.{named}
 use Rattle.moves.specs.Sets.{listed}
 
 -- a sum over the listed marks
@@ -55,29 +55,29 @@ toggled-few w q l =
 
 module _ (size : ℕ) (member : List ℕ) (m : ℕ) where
   -- for a loop over the slots: a slot that m names, and one that it does not
-  pub spell-on : (k : ℕ) → bit m k ≡ 1 → spell size member m (k + 1) ≡ flip (spell size member m k) (getD member k 0)
-  unfolding spell flipIf
-  spell-on k e = rw (add-one k) (ap (λ (b : ℕ). flipIf b (spell size member m k) (getD member k 0)) e)
+  pub named-on : (k : ℕ) → bit m k ≡ 1 → named size member m (k + 1) ≡ flip (named size member m k) (getD member k 0)
+  unfolding named flipIf
+  named-on k e = rw (add-one k) (ap (λ (b : ℕ). flipIf b (named size member m k) (getD member k 0)) e)
 
-  pub spell-off : (k : ℕ) → bit m k ≡ 0 → spell size member m (k + 1) ≡ spell size member m k
-  unfolding spell flipIf
-  spell-off k e = rw (add-one k) (ap (λ (b : ℕ). flipIf b (spell size member m k) (getD member k 0)) e)
+  pub named-off : (k : ℕ) → bit m k ≡ 0 → named size member m (k + 1) ≡ named size member m k
+  unfolding named flipIf
+  named-off k e = rw (add-one k) (ap (λ (b : ℕ). flipIf b (named size member m k) (getD member k 0)) e)
 
-  pub spell-length : (k : ℕ) → length (spell size member m k) ≡ size
-  unfolding spell
-  spell-length zero = length-replicate size 0
-  spell-length (suc k) = if-length (bit m k) (spell size member m k) (getD member k 0) ∙ spell-length k
+  pub named-length : (k : ℕ) → length (named size member m k) ≡ size
+  unfolding named
+  named-length zero = length-replicate size 0
+  named-length (suc k) = if-length (bit m k) (named size member m k) (getD member k 0) ∙ named-length k
 
-  pub spell-bits : (k p : ℕ) → getD (spell size member m k) p 0 < 2
-  unfolding spell
-  spell-bits zero p = rw (getD-zeros size p) (omega arith)
-  spell-bits (suc k) p = if-bits (bit m k) (spell size member m k) (getD member k 0) p (spell-bits k p)
+  pub named-bits : (k p : ℕ) → getD (named size member m k) p 0 < 2
+  unfolding named
+  named-bits zero p = rw (getD-zeros size p) (omega arith)
+  named-bits (suc k) p = if-bits (bit m k) (named size member m k) (getD member k 0) p (named-bits k p)
 
   -- a mark that stands is a named member's
-  pub spell-from : (k p : ℕ) → getD (spell size member m k) p 0 ≢ 0 → (j : ℕ) × (j < k) × (bit m j ≡ 1) × (getD member j 0 ≡ p)
-  unfolding spell flipIf
-  spell-from zero p ne = absurd (ne (getD-zeros size p))
-  spell-from (suc k) p ne = go (bit m k) refl (ℕ-discrete (getD member k 0) p) ne (λ q. spell-from k p q)
+  pub named-from : (k p : ℕ) → getD (named size member m k) p 0 ≢ 0 → (j : ℕ) × (j < k) × (bit m j ≡ 1) × (getD member j 0 ≡ p)
+  unfolding named flipIf
+  named-from zero p ne = absurd (ne (getD-zeros size p))
+  named-from (suc k) p ne = go (bit m k) refl (ℕ-discrete (getD member k 0) p) ne (λ q. named-from k p q)
     where
       Named : ℕ → Type 0
       Named k = (j : ℕ) × (j < k) × (bit m j ≡ 1) × (getD member j 0 ≡ p)
@@ -85,44 +85,44 @@ module _ (size : ℕ) (member : List ℕ) (m : ℕ) where
       up : Named k → Named (suc k)
       up t = (t .0, omega (arith, t .1), t .2, t .3)
 
-      go : (r : ℕ) → bit m k ≡ r → Dec (getD member k 0 ≡ p) → getD (flipIf r (spell size member m k) (getD member k 0)) p 0 ≢ 0
-          → (getD (spell size member m k) p 0 ≢ 0 → Named k) → Named (suc k)
+      go : (r : ℕ) → bit m k ≡ r → Dec (getD member k 0 ≡ p) → getD (flipIf r (named size member m k) (getD member k 0)) p 0 ≢ 0
+          → (getD (named size member m k) p 0 ≢ 0 → Named k) → Named (suc k)
       go zero e d q ih = up (ih q)
       go (suc r) e (yes f) q ih = (k, le-refl _, omega (arith, bit-lt m k), f)
-      go (suc r) e (no f) q ih = up (ih (λ z. q (getD-set-other (spell size member m k) (getD member k 0) p _ 0 (λ x. f (sym x)) ∙ z)))
+      go (suc r) e (no f) q ih = up (ih (λ z. q (getD-set-other (named size member m k) (getD member k 0) p _ 0 (λ x. f (sym x)) ∙ z)))
 
   -- the members that m names have marks
   abbrev pub Room : ℕ → Type 0
   Room k = (j : ℕ) → j < k → bit m j ≡ 1 → getD member j 0 < size
 
   -- the xor over the set is the combination that the mask names
-  pub spell-xor : (v : ℕ → ℕ) (k : ℕ) → k ≤ length member → Room k
-      → xorAll (map v (listed size (λ p. getD (spell size member m k) p 0))) ≡ combine (m % 2 ^ k) (map v member)
-  unfolding spell flipIf xorAll
-  spell-xor v zero h r =
+  pub named-xor : (v : ℕ → ℕ) (k : ℕ) → k ≤ length member → Room k
+      → xorAll (map v (listed size (λ p. getD (named size member m k) p 0))) ≡ combine (m % 2 ^ k) (map v member)
+  unfolding named flipIf xorAll
+  named-xor v zero h r =
       ap (λ (Y : List ℕ). xorAll (map v Y)) (listed-ext size (λ p. getD (replicate size 0) p 0) (λ p. 0) (λ p l. getD-zeros size p) ∙ listed-none size)
       ∙ sym (combine-first m (map v member))
-  spell-xor v (suc k) h r = go (bit m k) refl (spell-xor v k (omega arith) (λ j l. r j (omega arith)))
+  named-xor v (suc k) h r = go (bit m k) refl (named-xor v k (omega arith) (λ j l. r j (omega arith)))
     where
-      go : (e : ℕ) → bit m k ≡ e → xorAll (map v (listed size (λ p. getD (spell size member m k) p 0))) ≡ combine (m % 2 ^ k) (map v member)
-          → xorAll (map v (listed size (λ p. getD (flipIf e (spell size member m k) (getD member k 0)) p 0))) ≡ combine (m % 2 ^ suc k) (map v member)
+      go : (e : ℕ) → bit m k ≡ e → xorAll (map v (listed size (λ p. getD (named size member m k) p 0))) ≡ combine (m % 2 ^ k) (map v member)
+          → xorAll (map v (listed size (λ p. getD (flipIf e (named size member m k) (getD member k 0)) p 0))) ≡ combine (m % 2 ^ suc k) (map v member)
       go zero e ih = ih ∙ sym (combine-next m k (map v member) ∙ rw (e, zero-mul (getD (map v member) k 0)) (xor-zero-r (combine (m % 2 ^ k) (map v member))))
       go (suc zero) e ih =
-          toggled-xor size v (spell size member m k) (getD member k 0) (spell-length k) (spell-bits k) (r k (le-refl _) e)
+          toggled-xor size v (named size member m k) (getD member k 0) (named-length k) (named-bits k) (r k (le-refl _) e)
           ∙ ap (λ (x : ℕ). bitXor (v (getD member k 0)) x) ih ∙ xor-comm (v (getD member k 0)) (combine (m % 2 ^ k) (map v member))
           ∙ sym (combine-next m k (map v member) ∙ rw (e, one-mul (getD (map v member) k 0), getD-map v member k h))
       go (suc (suc x)) e ih = absurd (omega (arith, bit-lt m k))
 
-  pub spell-few : (k : ℕ) → Room k → sum size (λ p. getD (spell size member m k) p 0) ≤ k
-  unfolding spell flipIf
-  spell-few zero r = omega (arith, sum-ext size (λ p. getD (replicate size 0) p 0) (λ p. 0) (λ p l. getD-zeros size p), sum-zero size)
-  spell-few (suc k) r = go (bit m k) refl (spell-few k (λ j l. r j (omega arith)))
+  pub named-few : (k : ℕ) → Room k → sum size (λ p. getD (named size member m k) p 0) ≤ k
+  unfolding named flipIf
+  named-few zero r = omega (arith, sum-ext size (λ p. getD (replicate size 0) p 0) (λ p. 0) (λ p l. getD-zeros size p), sum-zero size)
+  named-few (suc k) r = go (bit m k) refl (named-few k (λ j l. r j (omega arith)))
     where
-      go : (e : ℕ) → bit m k ≡ e → sum size (λ p. getD (spell size member m k) p 0) ≤ k → sum size (λ p. getD (flipIf e (spell size member m k) (getD member k 0)) p 0) ≤ suc k
+      go : (e : ℕ) → bit m k ≡ e → sum size (λ p. getD (named size member m k) p 0) ≤ k → sum size (λ p. getD (flipIf e (named size member m k) (getD member k 0)) p 0) ≤ suc k
       go zero e ih = omega arith
       go (suc zero) e ih =
-          let w : List ℕ = spell size member m k in
-          let s : length w ≡ size = spell-length k in
+          let w : List ℕ = named size member m k in
+          let s : length w ≡ size = named-length k in
           let t : sum size (λ p. getD (flip w (getD member k 0)) p 0) ≤ sum size (λ p. getD w p 0) + 1 =
           subst (λ (x : ℕ). sum x (λ p. getD (flip w (getD member k 0)) p 0) ≤ sum x (λ p. getD w p 0) + 1) s (toggled-few w (getD member k 0) (rw s (r k (le-refl _) e))) in
           omega arith
