@@ -56,7 +56,8 @@ combine-combine u (m ∷ masks) ys =
     ∙ sym (combine-cons u (combine m ys) (map (λ m. combine m ys) masks))
 
 -- one number replaced
-pub combine-put : (u s x : ℕ) (ys : List ℕ) → s < length ys → combine u (set ys s x) ≡ bitXor (combine u ys) (bit u s * bitXor (getD ys s 0) x)
+pub combine-put : (u s x : ℕ) (ys : List ℕ) → s < length ys
+    → combine u (set ys s x) ≡ bitXor (combine u ys) (bit u s * bitXor (getD ys s 0) x)
 combine-put u s x ys l =
     let y : ℕ = getD ys s 0 in
     let e : bitXor y (bitXor y x) ≡ x = sym (xor-assoc y y x) ∙ rw (xor-self y) (xor-zero-l x) in
@@ -88,4 +89,5 @@ span-xor ys x y p q = (bitXor (p .0) (q .0), combine-xor (p .0) (q .0) ys ∙ ap
 pub span-all : (ys : List ℕ) (κ : ℕ → ℕ) (W : List ℕ) → ((i : ℕ) → i < length W → Span ys (κ (getD W i 0))) → Span ys (xorAll (map κ W))
 unfolding xorAll
 span-all ys κ [] h = span-zero ys
-span-all ys κ (w ∷ W) h = span-xor ys (κ w) (xorAll (map κ W)) (h 0 (suc-le-suc zero-le)) (span-all ys κ W (λ i l. h (suc i) (suc-le-suc l)))
+span-all ys κ (w ∷ W) h =
+    span-xor ys (κ w) (xorAll (map κ W)) (h 0 (suc-le-suc zero-le)) (span-all ys κ W (λ i l. h (suc i) (suc-le-suc l)))

@@ -15,7 +15,8 @@ use Rattle.gf2.specs.Table.{addAt, tabulate, weightedSum}
 close : (m s′ s a v t : ℕ) → s′ + a * t ≡ s + (a + v) % m * t → s′ % m ≡ (s + v * t) % m
 close m s′ s a v t e = sym (mod-by m ((a + v) / m * t) s′ (s + v * t) (omega (arith, ap (λ (y : ℕ). y * t) (div-add-mod' (a + v) m))))
 
-pub weightedSum-addAt : (m : ℕ) (w : List ℕ) (c : ℕ → ℕ) (q v : ℕ) → q < length w → weightedSum (addAt m w q v) c % m ≡ (weightedSum w c + v * c q) % m
+pub weightedSum-addAt : (m : ℕ) (w : List ℕ) (c : ℕ → ℕ) (q v : ℕ) → q < length w
+    → weightedSum (addAt m w q v) c % m ≡ (weightedSum w c + v * c q) % m
 unfolding weightedSum
 weightedSum-addAt m w c q v h =
     let u : ℕ = (getD w q 0 + v) % m in

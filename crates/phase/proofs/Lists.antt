@@ -56,11 +56,19 @@ weightedSum-wide n w s f =
 module _ (size n : ℕ) (f : ℕ → ℕ) where
   pub pad-length : 2 ^ n ≤ size → length (pad size n f) ≡ size
   unfolding pad
-  pad-length h = omega (arith, length-append (tabulate (2 ^ n) f) (replicate (size - 2 ^ n) 0), length-tabulate (2 ^ n) f, length-replicate {A = ℕ} (size - 2 ^ n) 0)
+  pad-length h =
+      omega (
+        arith,
+        length-append (tabulate (2 ^ n) f) (replicate (size - 2 ^ n) 0),
+        length-tabulate (2 ^ n) f,
+        length-replicate {A = ℕ} (size - 2 ^ n) 0,
+      )
 
   pub pad-low : (p : ℕ) → p < 2 ^ n → weight (pad size n f) p ≡ f p
   unfolding pad
-  pad-low p h = List·getD-append (tabulate (2 ^ n) f) (replicate (size - 2 ^ n) 0) 0 p (omega (arith, length-tabulate (2 ^ n) f)) ∙ getD-tabulate (2 ^ n) f p h
+  pad-low p h =
+      List·getD-append (tabulate (2 ^ n) f) (replicate (size - 2 ^ n) 0) 0 p (omega (arith, length-tabulate (2 ^ n) f))
+      ∙ getD-tabulate (2 ^ n) f p h
 
   pub pad-high : (p : ℕ) → 2 ^ n ≤ p → weight (pad size n f) p ≡ 0
   unfolding pad
@@ -90,7 +98,8 @@ same-list size n v w lv lw low high = ext-getD 0 v w (lv ∙ sym lw) (λ p hp. g
     go p (no g) = high p (omega arith)
 
 -- ---- v is u with r added, modulo 8
-pub weightedSum-added : (n : ℕ) (v u : List ℕ) (r : ℕ → ℕ) → Wide n v → Wide n u → ((p : ℕ) → p < 2 ^ n → weight v p ≡ (weight u p + r p) % 8)
+pub weightedSum-added : (n : ℕ) (v u : List ℕ) (r : ℕ → ℕ) → Wide n v → Wide n u
+    → ((p : ℕ) → p < 2 ^ n → weight v p ≡ (weight u p + r p) % 8)
     → (f : ℕ → ℕ) → weightedSum v f % 8 ≡ (weightedSum u f + sum (2 ^ n) (λ p. r p * f p)) % 8
 weightedSum-added n v u r wv wu is f =
     ap (λ (t : ℕ). t % 8) (weightedSum-wide n v wv f)
