@@ -34,9 +34,7 @@ module _ (most n : ℕ) (marks cells : List ℕ) where
   said-legal f g = cells-checked most n marks cells .1 (record { form = f; legal = g })
 
   pub legal-said : LegalCells most n marks cells → MoveForm most cells × Legal most n marks (zOf cells) (setOf cells)
-  legal-said g =
-      let h = cells-checked most n marks cells .0 g in
-      (h .form, h .legal)
+  legal-said g = let h = cells-checked most n marks cells .0 g in (h .form, h .legal)
 
   -- for cells of the form, the move decides; Y is the part of the cells that code takes for it
   pub move-if-legal : (Y : List ℕ) (r : Bool) → MoveForm most cells → Y ≡ setOf cells → Decides r (Legal most n marks (zOf cells) Y)

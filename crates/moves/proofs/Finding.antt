@@ -46,9 +46,9 @@ others-swap N κ marks a b k vec mask member =
 
 -- ---- what they decide
 
-module _ (size n most : ℕ) (room : 2 ^ n ≤ size) (marks : List ℕ) (sound : SoundMarks size n marks) (a b z t : ℕ) (ma : Member marks a) (mb : Member marks b)
-    (z-is : z ≡ bitXor a b) (t-lt : t < n) (z-t : bit z t ≡ 1) (N : ℕ) (vec mask member : List ℕ)
-    (basis : Basis N (Other size marks a b) (kappa n z t) vec mask member) where
+module _ (size n most : ℕ) (room : 2 ^ n ≤ size) (marks : List ℕ) (sound : SoundMarks size n marks) (a b z t : ℕ)
+    (ma : Member marks a) (mb : Member marks b) (z-is : z ≡ bitXor a b) (t-lt : t < n) (z-t : bit z t ≡ 1)
+    (N : ℕ) (vec mask member : List ℕ) (basis : Basis N (Other size marks a b) (kappa n z t) vec mask member) where
   abbrev κ : ℕ → ℕ
   κ = kappa n z t
 
@@ -135,7 +135,8 @@ module _ (size n most : ℕ) (room : 2 ^ n ≤ size) (marks : List ℕ) (sound :
           ap (λ (x : ℕ). xorAll (map (kappa n x t) (listed size g))) (sym z-is)
           ∙ xorAll-more κ a (listed size g) (listed size (λ p. getD w p 0))
           (λ c. ap (λ (x : ℕ). x % 2)
-          (listed-more size a (λ p. getD w p 0) (λ p. getD (flip w a) p 0) (named-bits size member m N) two (omega (arith, member-lt size n marks sound a ma)) (λ p l. more p) c))
+          (listed-more size a (λ p. getD w p 0) (λ p. getD (flip w a) p 0) (named-bits size member m N) two
+          (omega (arith, member-lt size n marks sound a ma)) (λ p l. more p) c))
           ∙ ap (bitXor (κ a))
           (named-xor size member m κ N (rw long (le-refl _)) fits
           ∙ ap (λ (k : ℕ). combine (m % 2 ^ k) (map κ member)) (sym (length-map member κ ∙ long)) ∙ combine-whole m (map κ member)

@@ -39,7 +39,9 @@ third w i j k = weightedSum w (λ p. bit p i * bit p j * bit p k) % 2
 -- the sums behind l, q and c are among these: b * b is b
 third-one : (w : List ℕ) (i : ℕ) → weightedSum w (λ p. bit p i) % 2 ≡ third w i i i
 unfolding third weightedSum
-third-one w i = sum-mod 2 (length w) (λ p. getD w p 0 * bit p i) (λ p. getD w p 0 * (bit p i * bit p i * bit p i)) (λ p l. cube (getD w p 0) (bit p i) (bit-lt p i))
+third-one w i =
+    sum-mod 2 (length w) (λ p. getD w p 0 * bit p i) (λ p. getD w p 0 * (bit p i * bit p i * bit p i))
+    (λ p l. cube (getD w p 0) (bit p i) (bit-lt p i))
   where
     cube : (m b : ℕ) → b < 2 → m * b % 2 ≡ m * (b * b * b) % 2
     cube m zero h = refl
@@ -68,13 +70,16 @@ same-signature n v w h =
     })
 
 -- a z that separates members is below 2 ^ n
-pub separated-lt : (size n : ℕ) (marks : List ℕ) → SoundMarks size n marks → (z : ℕ) (Y : List ℕ) → ((y : ℕ) → In y Y → Member marks y) → Separates marks z Y → z < 2 ^ n
+pub separated-lt : (size n : ℕ) (marks : List ℕ) → SoundMarks size n marks → (z : ℕ) (Y : List ℕ) → ((y : ℕ) → In y Y → Member marks y)
+    → Separates marks z Y → z < 2 ^ n
 separated-lt size n marks sound z Y marked s =
     rw (s .z-is)
-    (xor-lt n (s .a) (s .b) (member-lt size n marks sound (s .a) (marked (s .a) (s .a-in))) (member-lt size n marks sound (s .b) (s .b-member)))
+    (xor-lt n (s .a) (s .b) (member-lt size n marks sound (s .a) (marked (s .a) (s .a-in)))
+    (member-lt size n marks sound (s .b) (s .b-member)))
 
 -- one legal move of sound marks
-module _ (size n most : ℕ) (room : 2 ^ n ≤ size) (marks : List ℕ) (sound : SoundMarks size n marks) (z : ℕ) (Y : List ℕ) (legal : Legal most n marks z Y) where
+module _ (size n most : ℕ) (room : 2 ^ n ≤ size) (marks : List ℕ) (sound : SoundMarks size n marks) (z : ℕ) (Y : List ℕ)
+    (legal : Legal most n marks z Y) where
   pub y-lt : Below (2 ^ n) Y
   y-lt i l = member-lt size n marks sound (getD Y i 0) (legal .marked (getD Y i 0) (i, l, refl))
 

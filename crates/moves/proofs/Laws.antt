@@ -1,4 +1,5 @@
--- The laws of moves on one page, for every n: `size` is the number of marks, `most` the most that Y may have. The proofs are in the modules named.
+-- The laws of moves on one page, for every n: `size` is the number of marks, `most` the most that Y may have.
+-- The proofs are in the modules named.
 use mathlib.Core.List.{List, map}
 use mathlib.Core.Logic.{_↔_, _≢_}
 use mathlib.Core.Path.{_≡_, refl}
@@ -74,8 +75,10 @@ module _ (size n most : ℕ) (room : 2 ^ n ≤ size) (marks : List ℕ) (sound :
 
   -- ---- the finder
 
-  -- members a and b that differ on wire t: a legal move with a in Y and b not in Y, exactly where the column of a is the xor of columns of others
-  pub pair-exact : (a b t : ℕ) → Member marks a → Member marks b → t < n → bit (bitXor a b) t ≡ 1 → Offer most n marks a b ↔ Reach most n t marks a b
+  -- members a and b that differ on wire t: a legal move with a in Y and b not in Y,
+  -- exactly where the column of a is the xor of columns of others
+  pub pair-exact : (a b t : ℕ) → Member marks a → Member marks b → t < n → bit (bitXor a b) t ≡ 1
+      → Offer most n marks a b ↔ Reach most n t marks a b
   pair-exact a b t ma mb l h = offer-iff size n most room marks sound a b t ma mb l h
 
   -- no pair reaches: no z and Y make a legal move
@@ -98,12 +101,12 @@ pub one-move : (most z z′ : ℕ) (Y Y′ : List ℕ) → asCells most z Y ≡ 
 one-move = cells-unique
 
 -- carrying out logged moves keeps the signature, and every one takes a member at least
-pub replay-keeps-signature : (size n most : ℕ) → 2 ^ n ≤ size → (m : List ℕ) (moves : List (List ℕ)) (m′ : List ℕ) → SoundMarks size n m → Replays most n m moves m′
-    → SameSignature n m′ m
+pub replay-keeps-signature : (size n most : ℕ) → 2 ^ n ≤ size → (m : List ℕ) (moves : List (List ℕ)) (m′ : List ℕ) → SoundMarks size n m
+    → Replays most n m moves m′ → SameSignature n m′ m
 replay-keeps-signature = replays-signature
 
-pub replay-shrinks : (size n most : ℕ) → 2 ^ n ≤ size → (m : List ℕ) (moves : List (List ℕ)) (m′ : List ℕ) → SoundMarks size n m → Replays most n m moves m′
-    → length moves + members m′ ≤ members m
+pub replay-shrinks : (size n most : ℕ) → 2 ^ n ≤ size → (m : List ℕ) (moves : List (List ℕ)) (m′ : List ℕ) → SoundMarks size n m
+    → Replays most n m moves m′ → length moves + members m′ ≤ members m
 replay-shrinks = replays-shrinks
 
 -- ---- up to eight wires

@@ -59,7 +59,8 @@ cells-more most z Y y h =
 pub cells-say : (most z : ℕ) (Y cells : List ℕ) → cells ≡ asCells most z Y → (zOf cells ≡ z) × (setOf cells ≡ Y)
 cells-say most z Y cells e = (
   ap (λ (f : List ℕ). getD f 0 0) e ∙ cells-z most z Y,
-  ap (λ (f : List ℕ). take (getD f 1 0) (drop 2 f)) e ∙ ap (λ (c : ℕ). take c (drop 2 (asCells most z Y))) (cells-count most z Y) ∙ cells-set most z Y,
+  ap (λ (f : List ℕ). take (getD f 1 0) (drop 2 f)) e ∙ ap (λ (c : ℕ). take c (drop 2 (asCells most z Y))) (cells-count most z Y)
+      ∙ cells-set most z Y,
 )
 
 -- and no other
@@ -132,12 +133,15 @@ move-same size k log log′ e same = go (decLt (length log) (size * k + size))
         move-whole size log k (omega arith) ∙ part (size * k) size log (omega arith) ∙ ap (drop (size * k)) same
         ∙ sym (move-whole size log′ k (omega arith) ∙ part (size * k) size log′ (omega arith))
 
-pub logged-same : (size m : ℕ) (log log′ : List ℕ) → length log ≡ length log′ → take (size * m) log ≡ take (size * m) log′ → logged size log m ≡ logged size log′ m
+pub logged-same : (size m : ℕ) (log log′ : List ℕ) → length log ≡ length log′ → take (size * m) log ≡ take (size * m) log′
+    → logged size log m ≡ logged size log′ m
 unfolding logged
 logged-same size zero log log′ e same = refl
 logged-same size (suc m) log log′ e same =
     ap₂ (λ (fs : List (List ℕ)) (f : List ℕ). fs ++ (f ∷ []))
-    (logged-same size m log log′ e (sym (take-take (size * m) (size * suc m) log (omega arith)) ∙ ap (take (size * m)) same ∙ take-take (size * m) (size * suc m) log′ (omega arith)))
+    (logged-same size m log log′ e
+    (sym (take-take (size * m) (size * suc m) log (omega arith)) ∙ ap (take (size * m)) same
+    ∙ take-take (size * m) (size * suc m) log′ (omega arith)))
     (move-same size m log log′ e (rw next at same))
   where
     next : size * suc m ≡ size * m + size
@@ -161,5 +165,6 @@ logged-more size m log cells len room =
     omega (arith, length-append (take j log ++ cells) after, length-append (take j log) cells, length-drop (j + size) log) in
     ap₂ (λ (fs : List (List ℕ)) (f : List ℕ). fs ++ (f ∷ []))
     (logged-same size m new log long (ap (take j) (append-assoc (take j log) cells after) ∙ take-at (take j log) (cells ++ after) j front))
-    (move-whole size new m (omega arith) ∙ ap (take size) (ap (drop j) (append-assoc (take j log) cells after) ∙ drop-at (take j log) (cells ++ after) j front)
+    (move-whole size new m (omega arith)
+    ∙ ap (take size) (ap (drop j) (append-assoc (take j log) cells after) ∙ drop-at (take j log) (cells ++ after) j front)
     ∙ take-at cells after size len)

@@ -1,4 +1,5 @@
--- From a mask of slots to the set Y: the mark of each named slot's member is toggled, then the marks are listed. Toggling makes it needless that members differ.
+-- From a mask of slots to the set Y: the mark of each named slot's member is toggled, then the marks are listed.
+-- Toggling makes it needless that members differ.
 use mathlib.Core.List.{List, map}
 use mathlib.Core.Logic.{_≢_}
 use mathlib.Core.Path.{_∙_, _≡_, ap, refl, subst, sym}
@@ -28,7 +29,8 @@ use Rattle.moves.specs.Pair.{named}
 use Rattle.moves.specs.Sets.{listed}
 
 -- a sum over the listed marks
-marks-sum : (size : ℕ) (w : List ℕ) → length w ≡ size → ((p : ℕ) → getD w p 0 < 2) → (c : ℕ → ℕ) → sumOver c (listed size (λ p. getD w p 0)) ≡ weightedSum w c
+marks-sum : (size : ℕ) (w : List ℕ) → length w ≡ size → ((p : ℕ) → getD w p 0 < 2) → (c : ℕ → ℕ)
+    → sumOver c (listed size (λ p. getD w p 0)) ≡ weightedSum w c
 unfolding weightedSum
 marks-sum size w e two c = listed-sum (λ p. getD w p 0) two size c ∙ ap (λ (k : ℕ). sum k (λ p. getD w p 0 * c p)) (sym e)
 
@@ -49,7 +51,8 @@ pub toggled-few : (w : List ℕ) (q : ℕ) → q < length w → sum (length w) (
 toggled-few w q l =
     omega (
       arith,
-      sum-update (length w) q (λ p. getD w p 0) (λ p. getD (flip w q) p 0) l (λ p k ne. sym (getD-set-other w q p ((getD w q 0 + 1) % 2) 0 ne)),
+      sum-update (length w) q (λ p. getD w p 0) (λ p. getD (flip w q) p 0) l
+          (λ p k ne. sym (getD-set-other w q p ((getD w q 0 + 1) % 2) 0 ne)),
       getD-set-same w q ((getD w q 0 + 1) % 2) 0 l,
     )
 
@@ -100,13 +103,18 @@ module _ (size : ℕ) (member : List ℕ) (m : ℕ) where
       → xorAll (map v (listed size (λ p. getD (named size member m k) p 0))) ≡ combine (m % 2 ^ k) (map v member)
   unfolding named flipIf xorAll
   named-xor v zero h r =
-      ap (λ (Y : List ℕ). xorAll (map v Y)) (listed-ext size (λ p. getD (replicate size 0) p 0) (λ p. 0) (λ p l. getD-zeros size p) ∙ listed-none size)
+      ap (λ (Y : List ℕ). xorAll (map v Y))
+      (listed-ext size (λ p. getD (replicate size 0) p 0) (λ p. 0) (λ p l. getD-zeros size p) ∙ listed-none size)
       ∙ sym (combine-first m (map v member))
   named-xor v (suc k) h r = go (bit m k) refl (named-xor v k (omega arith) (λ j l. r j (omega arith)))
     where
       go : (e : ℕ) → bit m k ≡ e → xorAll (map v (listed size (λ p. getD (named size member m k) p 0))) ≡ combine (m % 2 ^ k) (map v member)
-          → xorAll (map v (listed size (λ p. getD (flipIf e (named size member m k) (getD member k 0)) p 0))) ≡ combine (m % 2 ^ suc k) (map v member)
-      go zero e ih = ih ∙ sym (combine-next m k (map v member) ∙ rw (e, zero-mul (getD (map v member) k 0)) (xor-zero-r (combine (m % 2 ^ k) (map v member))))
+          → xorAll (map v (listed size (λ p. getD (flipIf e (named size member m k) (getD member k 0)) p 0)))
+          ≡ combine (m % 2 ^ suc k) (map v member)
+      go zero e ih =
+          ih
+          ∙ sym (combine-next m k (map v member)
+          ∙ rw (e, zero-mul (getD (map v member) k 0)) (xor-zero-r (combine (m % 2 ^ k) (map v member))))
       go (suc zero) e ih =
           toggled-xor size v (named size member m k) (getD member k 0) (named-length k) (named-bits k) (r k (le-refl _) e)
           ∙ ap (λ (x : ℕ). bitXor (v (getD member k 0)) x) ih ∙ xor-comm (v (getD member k 0)) (combine (m % 2 ^ k) (map v member))
@@ -118,12 +126,14 @@ module _ (size : ℕ) (member : List ℕ) (m : ℕ) where
   named-few zero r = omega (arith, sum-ext size (λ p. getD (replicate size 0) p 0) (λ p. 0) (λ p l. getD-zeros size p), sum-zero size)
   named-few (suc k) r = go (bit m k) refl (named-few k (λ j l. r j (omega arith)))
     where
-      go : (e : ℕ) → bit m k ≡ e → sum size (λ p. getD (named size member m k) p 0) ≤ k → sum size (λ p. getD (flipIf e (named size member m k) (getD member k 0)) p 0) ≤ suc k
+      go : (e : ℕ) → bit m k ≡ e → sum size (λ p. getD (named size member m k) p 0) ≤ k
+          → sum size (λ p. getD (flipIf e (named size member m k) (getD member k 0)) p 0) ≤ suc k
       go zero e ih = omega arith
       go (suc zero) e ih =
           let w : List ℕ = named size member m k in
           let s : length w ≡ size = named-length k in
           let t : sum size (λ p. getD (flip w (getD member k 0)) p 0) ≤ sum size (λ p. getD w p 0) + 1 =
-          subst (λ (x : ℕ). sum x (λ p. getD (flip w (getD member k 0)) p 0) ≤ sum x (λ p. getD w p 0) + 1) s (toggled-few w (getD member k 0) (rw s (r k (le-refl _) e))) in
+          subst (λ (x : ℕ). sum x (λ p. getD (flip w (getD member k 0)) p 0) ≤ sum x (λ p. getD w p 0) + 1) s
+          (toggled-few w (getD member k 0) (rw s (r k (le-refl _) e))) in
           omega arith
       go (suc (suc x)) e ih = absurd (omega (arith, bit-lt m k))

@@ -1,4 +1,5 @@
--- Document 01, "Legal moves": the cells of a move, a log of moves, and move k of a log. `most` is the most that Y may have, `size` the cells of a move.
+-- Document 01, "Legal moves": the cells of a move, a log of moves, and move k of a log.
+-- `most` is the most that Y may have, `size` the cells of a move.
 use mathlib.Core.Bool.{cond}
 use mathlib.Core.List.{List, [], _++_, _∷_}
 use mathlib.Core.Path.{_≡_}

@@ -1,4 +1,5 @@
--- Document 01, "Legal moves": a move is a number z and a set Y of members of the odd set; when it is legal. `most` is the most that Y may have.
+-- Document 01, "Legal moves": a move is a number z and a set Y of members of the odd set; when it is legal.
+-- `most` is the most that Y may have.
 use mathlib.Core.List.{List}
 use mathlib.Core.Path.{_≡_}
 use Prim.Native.Nat.{_%_, _*_, _+_, _<_, _≤_, ℕ}
