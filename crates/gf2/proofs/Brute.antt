@@ -1,25 +1,23 @@
 -- An equation on bits, decided by computing it at every value.
 use mathlib.Core.Bool.{_&&_, Bool, false, true}
+use mathlib.Core.Logic.{_↔_}
 use mathlib.Core.Path.{_≡_}
 use Prim.Native.Nat.{_<_, suc, zero, ℕ}
 use native.Mathlib.Omega.{arith}
 use lib.Dec.{T, eqb, eqb→eq}
 
-T-left : (a b : Bool) → T (a && b) → T a
-T-left true b t = tt
-T-left false b t = t
-
-T-right : (a b : Bool) → T (a && b) → T b
-T-right true b t = t
-T-right false b t = absurd t
+-- two tests hold together where each does
+pub T-both : (a b : Bool) → T (a && b) ↔ (T a × T b)
+T-both true b = (λ t. (tt, t), λ t. t .1)
+T-both false b = (λ t. absurd t, λ t. t .0)
 
 -- the test holds at 0 and at 1
 abbrev pub all2 : (ℕ → Bool) → Bool
 all2 f = f 0 && f 1
 
 pub all2-at : (f : ℕ → Bool) → T (all2 f) → (x : ℕ) → x < 2 → T (f x)
-all2-at f t zero h = T-left (f 0) (f 1) t
-all2-at f t (suc zero) h = T-right (f 0) (f 1) t
+all2-at f t zero h = T-both (f 0) (f 1) .0 t .0
+all2-at f t (suc zero) h = T-both (f 0) (f 1) .0 t .1
 all2-at f t (suc (suc x)) h = absurd (omega arith)
 
 pub brute2 : (f g : ℕ → ℕ → ℕ) → T (all2 (λ a. all2 (λ b. eqb (f a b) (g a b)))) → (a b : ℕ) → a < 2 → b < 2 → f a b ≡ g a b

@@ -10,8 +10,9 @@ use Rattle.circuit.specs.Gate.{tGates}
 use Rattle.circuit.specs.Limits.{maxMembers, maxWires}
 use Rattle.circuit.specs.OddSet.{members, oddSet}
 use Rattle.circuit.specs.Read.{read}
+use Rattle.gf2.proofs.Brute.{T-both}
 use Rattle.gf2.specs.Selection.{combine}
-use Rattle.moves.proofs.Deciding.{T-both, every-at, legal-decided, same-decided}
+use Rattle.moves.proofs.Deciding.{every-at, legal-decided, same-decided}
 use Rattle.moves.specs.CarryOut.{carryOut}
 use Rattle.moves.specs.Decide.{every, isLegal, sameCells}
 use Rattle.phase.specs.Coefficients.{c, l, q}

@@ -11,6 +11,7 @@ use lib.Bits.{bitXor, xor-comm}
 use lib.Dec.{T, T-not, eqb, eqb-refl, eqb→eq, leb, leb→le, le→leb, ltb, ltb→lt, lt→ltb, not-T}
 use lib.ListN.{getD, length}
 use Rattle.circuit.specs.Sound.{weight}
+use Rattle.gf2.proofs.Brute.{T-both}
 use Rattle.gf2.proofs.Xor.{xor-cancel}
 use Rattle.gf2.specs.Over.{sumOver, xorAll}
 use Rattle.moves.proofs.Logs.{cells-say}
@@ -21,10 +22,6 @@ use Rattle.moves.specs.Move.{Balanced, Legal, Member, Separates, triple}
 use Rattle.moves.specs.Sets.{Ascending, In}
 
 -- ---- tests
-
-pub T-both : (a b : Bool) → T (a && b) ↔ (T a × T b)
-T-both true b = (λ t. (tt, t), λ t. t .1)
-T-both false b = (λ t. absurd t, λ t. t .0)
 
 T-either : (a b : Bool) → T (a || b) → T a ⊎ T b
 T-either true b t = inl tt
