@@ -8,6 +8,7 @@ use native.Mathlib.Omega.{arith}
 use lib.ListN.{drop, getD, length, length-append, length-drop, length-replicate, replicate, set, take, take-append-drop}
 use lib.Seq.{drop-at, ext-getD, getD-append-add, getD-drop, length-take-le, set-append-seam, take-add, take-append-seam, take-at, take-take}
 use borrow.Author.Tests.{le-leb, lt-leb}
+use Rattle.circuit.specs.Lent.{placed}
 use Rattle.gf2.proofs.Table.{getD-zeros}
 use Rattle.moves.specs.Log.{LegalCells, MoveForm, asCells, logged, moveAt, setOf, zOf}
 use Rattle.moves.specs.Move.{Legal}
@@ -154,15 +155,15 @@ logged-length size (suc m) log = omega (arith, length-append (logged size log m)
 
 -- one more move, written after m
 pub logged-more : (size m : ℕ) (log cells : List ℕ) → length cells ≡ size → size * m + size ≤ length log
-    → logged size (take (size * m) log ++ cells ++ drop (size * m + size) log) (suc m) ≡ logged size log m ++ (cells ∷ [])
+    → logged size (placed log (size * m) cells) (suc m) ≡ logged size log m ++ (cells ∷ [])
 unfolding logged
 logged-more size m log cells len room =
     let j : ℕ = size * m in
-    let after : List ℕ = drop (j + size) log in
+    let after : List ℕ = drop (j + length cells) log in
     let new : List ℕ = take j log ++ cells ++ after in
     let front : length (take j log) ≡ j = length-take-le j log (omega arith) in
     let long : length new ≡ length log =
-    omega (arith, length-append (take j log ++ cells) after, length-append (take j log) cells, length-drop (j + size) log) in
+    omega (arith, length-append (take j log ++ cells) after, length-append (take j log) cells, length-drop (j + length cells) log) in
     ap₂ (λ (fs : List (List ℕ)) (f : List ℕ). fs ++ (f ∷ []))
     (logged-same size m new log long (ap (take j) (append-assoc (take j log) cells after) ∙ take-at (take j log) (cells ++ after) j front))
     (move-whole size new m (omega arith)

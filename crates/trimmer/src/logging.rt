@@ -1,18 +1,18 @@
 // Writing a move into the lent log.
 ghost use mathlib.Core.Path.{_≡_};
-ghost use Prim.Native.Nat.{_+_, _*_, _≤_};
+ghost use Prim.Native.Nat.{_*_, _+_, _≤_};
 ghost use lib.ListN.{length};
-ghost use lib.Seq.{paste};
+ghost use Rattle.circuit.specs.Lent.{placed};
 ghost use Rattle.circuit.specs.Limits.{moveCells};
+use circuit::copying::copy_parities;
 use circuit::limits::MOVE_CELLS;
+use circuit::limits::MoveCell;
 
 // The cells of move k, at their place; every other cell stays.
-pub fn put_move(log: &mut [u8], k: usize, cells: &[u8; MOVE_CELLS])
+pub fn put_move(log: &mut [MoveCell], k: usize, cells: &[MoveCell])
     requires { ⌜ (moveCells * k + moveCells ≤ length (now log)) × (length (now cells) ≡ moveCells) ⌝ }
-    ensures { λ _. ⌜ now (log .exit) ≡ paste (now (log .entry)) (moveCells * k) (now (cells .entry)) moveCells ⌝ }
+    ensures { λ _. ⌜ now (log .exit) ≡ placed (now (log .entry)) (moveCells * k) (now (cells .entry)) ⌝ }
 {
     let at = MOVE_CELLS * k;
-    for j in 0..MOVE_CELLS {
-        log[at + j] = cells[j];
-    }
+    copy_parities(cells, &mut log[at..at + MOVE_CELLS]);
 }
