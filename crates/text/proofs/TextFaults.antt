@@ -16,7 +16,7 @@ use Rattle.circuit.specs.declared.Reply.{Reply}
 use Rattle.circuit.specs.declared.Reply.the-variants.{Done, Refused}
 use Rattle.text.proofs.LineForms.{formed-lines, formed-long, some-line}
 use Rattle.text.specs.Limits.{gateDigits, gateLineBytes, wiresDigits, wiresLineBytes}
-use Rattle.text.specs.Lines.{Line, ended, firstFormed, formed, byteAt, linesOf, linesSpell, spelled}
+use Rattle.text.specs.Lines.{Line, ended, firstFormed, formed, byteAt, linesOf, linesDecoded, decoded}
 use Rattle.text.specs.Text.{circuit, faulty, gatesFault, linesFault, readText, wiresIn}
 
 -- ---- by lines
@@ -71,7 +71,7 @@ one-wrong t = go (linesOf t)
     go (l ∷ ls) e = rw e
 
 two : (t : List ℕ) → wiresDigits < length t → wiresIn (ended (take wiresDigits t)) ≡ byteAt t 0
-unfolding spelled
+unfolding decoded
 two [] h = absurd (omega arith)
 two (a ∷ []) h = absurd (omega arith)
 two (a ∷ b ∷ t) h = refl
@@ -141,7 +141,7 @@ module _ (t : List ℕ) (done : linesFault (linesOf t) ≡ Done) where
   pub gates-done : faultFrom t wiresLineBytes 0 ≡ Done
   gates-done = judged-done .1
 
-  pub read-circuit : readText t ≡ circuit (byteAt t 0) (linesSpell (linesOf (drop wiresLineBytes t)))
+  pub read-circuit : readText t ≡ circuit (byteAt t 0) (linesDecoded (linesOf (drop wiresLineBytes t)))
   unfolding readText
   read-circuit = rw (done, one-right t one-formed-done, two t (one-long t one-formed-done))
 

@@ -24,7 +24,7 @@ use Rattle.text.proofs.WrittenReads.{circuit-pass, length-gates, pair-h
 use Rattle.text.specs.Entry.{ReadText, gatesAfter, readInto, replyOf}
 use Rattle.text.specs.Hex.{hex2, hex4}
 use Rattle.text.specs.Limits.{countsLineBytes, gateDigits, gateLineBytes, refusedLineBytes, replyBytes, textBytes, wiresDigits, wiresLineBytes}
-use Rattle.text.specs.Lines.{firstFormed, linesOf, spelled}
+use Rattle.text.specs.Lines.{firstFormed, linesOf, decoded}
 use Rattle.text.specs.Text.{Sayable, Text, circuit, faulty, linesFault, readText}
 use Rattle.text.specs.Written.{countsLine, gateLine, gateLines, refusedLine, textOf, wiresLine}
 use Rattle.text.specs.declared.TextReply.{TextReply}
@@ -157,14 +157,14 @@ done-reads t gates gates′ n m c = go (decLt (length gates) maxListBytes)
 
 -- ---- the lines written
 
--- two digits spell a byte, and four a number below 2^16, high byte first
-pub hex2-spells : (v : ℕ) → v < 256 → spelled (hex2 v) ≡ v ∷ []
-unfolding spelled
-hex2-spells v h = rw (pair-hex v h)
+-- two digits stand for a byte, and four for a number below 2^16, high byte first
+pub hex2-decoded : (v : ℕ) → v < 256 → decoded (hex2 v) ≡ v ∷ []
+unfolding decoded
+hex2-decoded v h = rw (pair-hex v h)
 
-pub hex4-spells : (v : ℕ) → v < 256 * 256 → spelled (hex4 v) ≡ v / 256 ∷ v % 256 ∷ []
-unfolding spelled
-hex4-spells v h = rw (pair-hex (v / 256) (omega arith), pair-low v)
+pub hex4-decoded : (v : ℕ) → v < 256 * 256 → decoded (hex4 v) ≡ v / 256 ∷ v % 256 ∷ []
+unfolding decoded
+hex4-decoded v h = rw (pair-hex (v / 256) (omega arith), pair-low v)
 
 pub wires-line-long : (n : ℕ) → length (wiresLine n) ≡ wiresLineBytes
 wires-line-long n = refl

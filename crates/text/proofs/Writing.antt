@@ -1,14 +1,15 @@
 -- Writing in a row: what two calls write one after the other, and what stores leave.
-use mathlib.Core.List.{List, [], _∷_, _++_}
+use mathlib.Core.List.{List, [], _∷_, _++_, append-assoc}
 use mathlib.Core.Path.{_∙_, _≡_, ap, refl, sym}
-use Prim.Native.Nat.{_*_, _+_, _/_, _<_, _≤_, suc, ℕ}
+use Prim.Native.Nat.{_*_, _+_, _-_, _/_, _<_, _≤_, ℕ}
 use native.Mathlib.Numerals.{add-one}
 use native.Mathlib.Omega.{arith}
-use lib.ListN.{drop, drop-of-length-le, getD, length, length-append, set}
-use lib.Seq.{drop-cons, length-sets, sets}
+use lib.ListN.{length, length-append, set, take}
+use lib.Seq.{length-sets, sets}
+use borrow.Rule.Slice.PartMut.{post-is, putMid}
 use Rattle.circuit.proofs.Bytes.{byteGate, gates-step, gates-tail, gatesFrom}
+use Rattle.circuit.proofs.Placing.{sets-append, sets-placed}
 use Rattle.circuit.specs.Limits.{gateBytes}
-use Rattle.text.proofs.Storing.{sets-append, sets-placed}
 use Rattle.text.specs.Limits.{gateLineBytes}
 use Rattle.text.specs.Placed.{Writes}
 use Rattle.text.specs.Written.{gateLine, gateLines}
@@ -22,7 +23,7 @@ module _ (was : List ℕ) (at : ℕ) (u mid : List ℕ) (m : ℕ) (w : Writes wa
 
   -- what is stored behind what was written
   pub writes-before : (v : List ℕ) → sets mid m v ≡ sets was at (u ++ v)
-  writes-before v = rw (writes-sets, w .onward) (sets-append was at u v)
+  writes-before v = rw writes-sets (sets-append was u v at m (sym (w .onward)))
 
 -- two calls in a row write the one's bytes and then the other's
 pub writes-then : {was : List ℕ} {at : ℕ} {u mid : List ℕ} {m : ℕ} {v left : List ℕ} {next : ℕ}
@@ -31,30 +32,28 @@ writes-then {was} {at} {u} {mid} {m} {v} {left} {next} w x h =
     let there : m + length v ≤ length mid = omega (arith, w .onward, writes-keeps was at u mid m w (omega arith)) in
     record {
       onward = omega (arith, x .onward, w .onward, length-append u v);
-      written = writes-sets mid m v left next x there ∙ writes-before was at u mid m w (omega arith) v ∙ sets-placed was at (u ++ v) (omega (arith, length-append u v));
+      written =
+          writes-sets mid m v left next x there
+          ∙ writes-before was at u mid m w (omega arith) v
+          ∙ sets-placed was at (u ++ v) (omega (arith, length-append u v));
     }
 
 pub one-written : (was : List ℕ) (at b : ℕ) → at < length was → Writes was at (b ∷ []) (set was at b) (at + 1)
 one-written was at b h = record { onward = refl; written = sets-placed was at (b ∷ []) (omega arith) }
 
-pub two-written : (was : List ℕ) (at a b x y : ℕ) → at + 2 ≤ length was → x ≡ a → y ≡ b → Writes was at (a ∷ b ∷ []) (set (set was at x) (at + 1) y) (at + 2)
+pub two-written : (was : List ℕ) (at a b x y : ℕ) → at + 2 ≤ length was → x ≡ a → y ≡ b
+    → Writes was at (a ∷ b ∷ []) (set (set was at x) (at + 1) y) (at + 2)
 two-written was at a b x y h e f =
     record { onward = refl; written = rw (e, f, add-one at) (sets-placed was at (a ∷ b ∷ []) (omega arith)) }
 
--- ---- the loop over the bytes of a fixed string: what is left of it, stored behind what has been, gives all of it
-
-module _ (source : List ℕ) (at j : ℕ) where
-  pub byte-put : (out all : List ℕ) → j < length source → sets out (at + j) (drop j source) ≡ all
-      → sets (set out (at + j) (getD source j 0)) (at + (j + 1)) (drop (j + 1) source) ≡ all
-  byte-put out all h e =
-      let p : at + (j + 1) ≡ suc (at + j) = omega arith in
-      rw (p, add-one j) ((rw (drop-cons source j 0 h) at e))
-
-  pub all-put : (was left : List ℕ) → length source ≤ j → j ≤ length source → at + length source ≤ length was → sets left (at + j) (drop j source) ≡ sets was at source
-      → Writes was at source left (at + j)
-  all-put was left h k fits e =
-      let full : j ≡ length source = omega arith in
-      record { onward = ap (λ (n : ℕ). at + n) full; written = (rw (drop-of-length-le source h) at e) ∙ sets-placed was at source fits }
+-- a part of the output, lent to a call that leaves these bytes in it
+pub part-written : (was bytes part : List ℕ) (at : ℕ) → part ≡ bytes
+    → Writes was at bytes (putMid at (at + length bytes - at) was part) (at + length bytes)
+part-written was bytes part at e =
+    record {
+      onward = refl;
+      written = rw (e, post-is at (at + length bytes) was (omega arith)) (sym (append-assoc (take at was) bytes _));
+    }
 
 -- ---- the loop over the gates
 

@@ -3,7 +3,7 @@ use native.Mathlib.Omega.{arith}
 use lib.ListN.{length-set}
 use borrow.Author.Needs.{needs}
 use denote.Ref.{now}
-use Rattle.text.proofs.Storing.{three-stored}
+use Rattle.circuit.proofs.Placing.{three-stored}
 use Rattle.text.proofs.reading.store_gate.Statement.{statement}
 use Rattle.text.proofs.reading.store_gate.Tie as tie
 
