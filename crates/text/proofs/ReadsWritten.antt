@@ -13,10 +13,11 @@ use Rattle.circuit.specs.declared.Reply.{Reply}
 use Rattle.circuit.specs.declared.Reply.the-variants.{Done, Refused}
 use Rattle.text.proofs.HexDigits.{value-lt}
 use Rattle.text.proofs.LineForms.{and-both, first-formed, starts}
-use Rattle.text.proofs.TextFaults.{count-done, done-few, done-formed, done-next, faultFrom, gates-done, one-formed-done, read-circuit, read-faulty}
+use Rattle.text.proofs.TextFaults.{count-done, done-few, done-formed, done-next, faultFrom, gates-done, one-formed-done}
+use Rattle.text.proofs.TextFaults.{read-circuit, read-faulty}
 use Rattle.text.specs.Hex.{hex2, isDigit, newline}
 use Rattle.text.specs.Limits.{gateDigits, gateLineBytes, wiresDigits, wiresLineBytes}
-use Rattle.text.specs.Lines.{byteAt, linesOf, linesDecoded, pair}
+use Rattle.text.specs.Lines.{byteAt, linesDecoded, linesOf, pair}
 use Rattle.text.specs.Text.{Sayable, circuit, faulty, linesFault, readText}
 use Rattle.text.specs.Written.{gateLine, gateLines, textOf, wiresLine}
 use Rattle.text.proofs.WrittenReads.{AllBytes, hex-pair, line-decoded, pair-hex}
@@ -77,15 +78,15 @@ gate-first t e =
     let y = peel 2 (x .rest) (x .more) in
     let w = peel 0 (y .rest) (y .more) in
     let z = end (w .rest) (w .more) in
+    let last = w .is ∙ ap (λ (l : List ℕ). hex2 (w .value) ++ l) (z .1) in
+    let two = y .is ∙ ap (λ (l : List ℕ). hex2 (y .value) ++ l) last in
     record {
       kind = x .value;
       a = y .value;
       b = w .value;
       rest = z .0;
       small = (x .small, y .small, w .small);
-      is =
-          x .is
-          ∙ ap (λ (l : List ℕ). hex2 (x .value) ++ l) (y .is ∙ ap (λ (l : List ℕ). hex2 (y .value) ++ l) (w .is ∙ ap (λ (l : List ℕ). hex2 (w .value) ++ l) (z .1)));
+      is = x .is ∙ ap (λ (l : List ℕ). hex2 (x .value) ++ l) two;
     }
 
 -- gate lines of which r may come yet, and the bytes that they stand for
@@ -105,7 +106,8 @@ no-gates : (r : ℕ) → Decodes r [] (linesDecoded (linesOf []))
 unfolding gatesOf gateLines linesDecoded linesOf
 no-gates r = record { written = refl; whole = refl; short = omega arith; byte = λ i. omega arith }
 
-one-gate : (r : ℕ) (t : List ℕ) (g : GateFirst t) → Decodes r (g .rest) (linesDecoded (linesOf (g .rest))) → Decodes (suc r) t (linesDecoded (linesOf t))
+one-gate : (r : ℕ) (t : List ℕ) (g : GateFirst t) → Decodes r (g .rest) (linesDecoded (linesOf (g .rest)))
+    → Decodes (suc r) t (linesDecoded (linesOf t))
 unfolding gatesOf gateLines
 one-gate r t g s =
     let kind = g .kind in
@@ -127,7 +129,9 @@ module _ (i b : ℕ) (t : List ℕ) (d : faultFrom (b ∷ t) 0 i ≡ Done) where
   gate-there = gate-first (b ∷ t) (first-formed gateDigits (b ∷ t) ∙ done-formed (b ∷ t) 0 i (omega arith) d)
 
   gates-after : faultFrom (gate-there .rest) 0 (i + 1) ≡ Done
-  gates-after = ap (λ (l : List ℕ). faultFrom l 0 (i + 1)) (sym (ap (drop gateLineBytes) (gate-there .is))) ∙ done-next (b ∷ t) 0 i (omega arith) d
+  gates-after =
+      ap (λ (l : List ℕ). faultFrom l 0 (i + 1)) (sym (ap (drop gateLineBytes) (gate-there .is)))
+      ∙ done-next (b ∷ t) 0 i (omega arith) d
 
 gates-written : (r i : ℕ) (t : List ℕ) → i + r ≡ maxGates → faultFrom t 0 i ≡ Done → Decodes r t (linesDecoded (linesOf t))
 gates-written zero i [] e d = no-gates 0

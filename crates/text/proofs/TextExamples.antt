@@ -2,17 +2,18 @@
 use mathlib.Core.List.{[], _∷_, _++_}
 use mathlib.Core.Path.{_≡_, refl}
 use Rattle.circuit.specs.Gate.{gate}
-use Rattle.text.specs.Hex.{digit, isDigit, valueOf}
 use Rattle.circuit.specs.Limits.{maxWrittenGates}
+use Rattle.text.specs.Hex.{digit, isDigit, valueOf}
 use Rattle.text.specs.Limits.{replyBytes, textBytes}
-use Rattle.text.specs.Lines.{areDigits, linesOf, linesDecoded, decoded}
+use Rattle.text.specs.Lines.{areDigits, decoded, linesDecoded, linesOf}
 use Rattle.text.specs.Text.{circuit, faulty, gatesFault, readText}
 use Rattle.text.specs.Written.{countsLine, gateLines, refusedLine, wiresLine}
 
 -- ---- read
 
 -- document 01's example: `01`, `020000`, `020000`
-example : readText (48 ∷ 49 ∷ 10 ∷ 48 ∷ 50 ∷ 48 ∷ 48 ∷ 48 ∷ 48 ∷ 10 ∷ 48 ∷ 50 ∷ 48 ∷ 48 ∷ 48 ∷ 48 ∷ 10 ∷ []) ≡ circuit 1 (2 ∷ 0 ∷ 0 ∷ 2 ∷ 0 ∷ 0 ∷ [])
+example : readText (48 ∷ 49 ∷ 10 ∷ 48 ∷ 50 ∷ 48 ∷ 48 ∷ 48 ∷ 48 ∷ 10 ∷ 48 ∷ 50 ∷ 48 ∷ 48 ∷ 48 ∷ 48 ∷ 10 ∷ [])
+    ≡ circuit 1 (2 ∷ 0 ∷ 0 ∷ 2 ∷ 0 ∷ 0 ∷ [])
 unfolding readText linesOf areDigits gatesFault decoded linesDecoded isDigit valueOf
 example = refl
 

@@ -15,14 +15,14 @@ use Rattle.text.specs.Placed.{Writes}
 use Rattle.text.specs.Written.{gateLine, gateLines}
 
 module _ (was : List ℕ) (at : ℕ) (u mid : List ℕ) (m : ℕ) (w : Writes was at u mid m) (fits : at + length u ≤ length was) where
-  pub writes-sets : mid ≡ sets was at u
+  writes-sets : mid ≡ sets was at u
   writes-sets = w .written ∙ sym (sets-placed was at u fits)
 
-  pub writes-keeps : length mid ≡ length was
+  writes-keeps : length mid ≡ length was
   writes-keeps = ap length writes-sets ∙ length-sets was at u
 
   -- what is stored behind what was written
-  pub writes-before : (v : List ℕ) → sets mid m v ≡ sets was at (u ++ v)
+  writes-before : (v : List ℕ) → sets mid m v ≡ sets was at (u ++ v)
   writes-before v = rw writes-sets (sets-append was u v at m (sym (w .onward)))
 
 -- two calls in a row write the one's bytes and then the other's
@@ -58,29 +58,43 @@ part-written was bytes part at e =
 -- ---- the loop over the gates
 
 -- the lines of the gates from gate i on
-abbrev pub linesFrom : List ℕ → ℕ → List ℕ
+abbrev linesFrom : List ℕ → ℕ → List ℕ
 linesFrom gates i = gateLines (gatesFrom gates i)
 
-module _ (gates : List ℕ) (i : ℕ) where
-  lines-step : gateBytes * i + 2 < length gates → linesFrom gates i ≡ gateLine (byteGate gates i) ++ linesFrom gates (i + 1)
+lines-step : (gates : List ℕ) (i : ℕ) → gateBytes * i + 2 < length gates
+    → linesFrom gates i ≡ gateLine (byteGate gates i) ++ linesFrom gates (i + 1)
+unfolding gateLines
+lines-step gates i h = rw (gates-step gates i h)
+
+-- i lines are written from place `at` on: what is left, stored behind them, gives all of them
+pub record PutTo (gates was left : List ℕ) (at next i : ℕ) : Type 0 where
+  pub long : length left ≡ length was
+  pub on : next ≡ at + gateLineBytes * i
+  pub counted : next + length (linesFrom gates i) ≡ at + length (linesFrom gates 0)
+  pub put : sets left next (linesFrom gates i) ≡ sets was at (linesFrom gates 0)
+
+pub none-put : (gates was : List ℕ) (at : ℕ) → PutTo gates was was at at 0
+none-put gates was at = record { long = refl; on = omega arith; counted = refl; put = refl }
+
+module _ {gates was left : List ℕ} {at next i : ℕ} (p : PutTo gates was left at next i) where
+  pub gate-put : {left′ : List ℕ} {next′ : ℕ} → gateBytes * i + 2 < length gates → next + gateLineBytes ≤ length left
+      → Writes left next (gateLine (byteGate gates i)) left′ next′ → PutTo gates was left′ at next′ (i + 1)
+  gate-put {left′} {next′} h fits w =
+      let line = gateLine (byteGate gates i) in
+      record {
+        long = writes-keeps left next line left′ next′ w fits ∙ p .long;
+        on = omega (arith, w .onward, p .on);
+        counted = omega (arith, w .onward, p .counted, ap length (lines-step gates i h));
+        put =
+            writes-before left next line left′ next′ w fits (linesFrom gates (i + 1))
+            ∙ ap (sets left next) (sym (lines-step gates i h))
+            ∙ p .put;
+      }
+
+  -- no gate is left
+  pub gates-put : i ≡ length gates / gateBytes → next ≤ length was → Writes was at (linesFrom gates 0) left next
   unfolding gateLines
-  lines-step h = rw (gates-step gates i h)
-
-  pub gate-put : (was left all : List ℕ) (at next : ℕ) → gateBytes * i + 2 < length gates → Writes was at (gateLine (byteGate gates i)) left next
-      → at + gateLineBytes ≤ length was
-      → sets was at (linesFrom gates i) ≡ all → sets left next (linesFrom gates (i + 1)) ≡ all
-  gate-put was left all at next h w fits e =
-      writes-before was at (gateLine (byteGate gates i)) left next w fits (linesFrom gates (i + 1)) ∙ ap (sets was at) (sym (lines-step h)) ∙ e
-
-  pub gate-counted : (at next total : ℕ) → gateBytes * i + 2 < length gates → next ≡ at + gateLineBytes → at + length (linesFrom gates i) ≡ total
-      → next + length (linesFrom gates (i + 1)) ≡ total
-  gate-counted at next total h n e = omega (arith, ap length (lines-step h))
-
-  pub gates-put : (was left : List ℕ) (at next : ℕ) → i ≡ length gates / gateBytes → next ≤ length was
-      → next + length (linesFrom gates i) ≡ at + length (linesFrom gates 0) → sets left next (linesFrom gates i) ≡ sets was at (linesFrom gates 0)
-      → Writes was at (linesFrom gates 0) left next
-  unfolding gateLines
-  gates-put was left at next h fits n e =
+  gates-put h fits =
       let none : linesFrom gates i ≡ [] = ap gateLines (gates-tail gates i h) in
-      let counted : next ≡ at + length (linesFrom gates 0) = omega (arith, ap length none) in
-      record { onward = counted; written = (rw none at e) ∙ sets-placed was at (linesFrom gates 0) (omega arith) }
+      let all : next ≡ at + length (linesFrom gates 0) = omega (arith, p .counted, ap length none) in
+      record { onward = all; written = (rw none at (p .put)) ∙ sets-placed was at (linesFrom gates 0) (omega arith) }

@@ -16,7 +16,7 @@ use Rattle.text.proofs.LineForms.{first-formed, first-line, starts}
 use Rattle.text.proofs.TextFaults.{by-count, read-circuit, right}
 use Rattle.text.specs.Hex.{digit, hex2, isDigit, newline, valueOf}
 use Rattle.text.specs.Limits.{gateDigits, wiresDigits}
-use Rattle.text.specs.Lines.{byteAt, ended, firstFormed, formed, linesOf, linesDecoded, pair, decoded}
+use Rattle.text.specs.Lines.{byteAt, decoded, ended, firstFormed, formed, linesDecoded, linesOf, pair}
 use Rattle.text.specs.Text.{Sayable, circuit, gatesFault, linesFault, readText}
 use Rattle.text.specs.Written.{gateLine, gateLines, textOf, wiresLine}
 
@@ -50,7 +50,10 @@ wires-starts n t = starts-hex 0 n (newline ∷ t)
 
 pub gate-starts : (g : Gate) (t : List ℕ) → starts gateDigits (gateLine g ++ t) ≡ true
 unfolding starts
-gate-starts (gate kind a b) t = starts-hex 4 kind (hex2 a ++ hex2 b ++ newline ∷ t) ∙ starts-hex 2 a (hex2 b ++ newline ∷ t) ∙ starts-hex 0 b (newline ∷ t)
+gate-starts (gate kind a b) t =
+    starts-hex 4 kind (hex2 a ++ hex2 b ++ newline ∷ t)
+    ∙ starts-hex 2 a (hex2 b ++ newline ∷ t)
+    ∙ starts-hex 0 b (newline ∷ t)
 
 -- the digits of a gate
 abbrev digitsOf : Gate → List ℕ
@@ -65,7 +68,8 @@ gate-formed g =
     rw (gate-lines g []) at f
 
 -- gate lines that are written have no fault as long as they are few enough
-pub gates-pass : (gs : List Gate) (i : ℕ) (t : List ℕ) → i + length gs ≤ maxGates → gatesFault i (linesOf (gateLines gs ++ t)) ≡ gatesFault (i + length gs) (linesOf t)
+pub gates-pass : (gs : List Gate) (i : ℕ) (t : List ℕ) → i + length gs ≤ maxGates
+    → gatesFault i (linesOf (gateLines gs ++ t)) ≡ gatesFault (i + length gs) (linesOf t)
 unfolding gateLines
 gates-pass [] i t h = rw (add-zero i)
 gates-pass (g ∷ gs) i t h =
@@ -88,9 +92,12 @@ digits-decoded kind a b h k l = rw (pair-hex kind h, pair-hex a k, pair-hex b l)
 pub line-decoded : (kind a b : ℕ) (t : List ℕ) → kind < 256 → a < 256 → b < 256
     → linesDecoded (linesOf (gateLine (gate kind a b) ++ t)) ≡ kind ∷ a ∷ b ∷ linesDecoded (linesOf t)
 unfolding linesDecoded
-line-decoded kind a b t h k l = ap linesDecoded (gate-lines (gate kind a b) t) ∙ ap (λ (x : List ℕ). x ++ linesDecoded (linesOf t)) (digits-decoded kind a b h k l)
+line-decoded kind a b t h k l =
+    ap linesDecoded (gate-lines (gate kind a b) t)
+    ∙ ap (λ (x : List ℕ). x ++ linesDecoded (linesOf t)) (digits-decoded kind a b h k l)
 
-pub gates-decoded : (bytes : List ℕ) → length bytes % gateBytes ≡ 0 → AllBytes bytes → linesDecoded (linesOf (gateLines (gatesOf bytes))) ≡ bytes
+pub gates-decoded : (bytes : List ℕ) → length bytes % gateBytes ≡ 0 → AllBytes bytes
+    → linesDecoded (linesOf (gateLines (gatesOf bytes))) ≡ bytes
 unfolding gatesOf gateLines linesDecoded linesOf
 gates-decoded [] w f = refl
 gates-decoded (kind ∷ []) w f = absurd (omega arith)
@@ -129,6 +136,7 @@ module _ (n : ℕ) (bytes : List ℕ) (is : Sayable n bytes) where
   pub written-reads : readText (textOf n bytes) ≡ circuit n bytes
   unfolding gatesFault linesOf
   written-reads =
-      let done : linesFault (linesOf (textOf n bytes)) ≡ Done = ap (λ (l : List ℕ). linesFault (linesOf l)) (sym (append-nil (textOf n bytes))) ∙ circuit-pass [] in
+      let done : linesFault (linesOf (textOf n bytes)) ≡ Done =
+      ap (λ (l : List ℕ). linesFault (linesOf l)) (sym (append-nil (textOf n bytes))) ∙ circuit-pass [] in
       read-circuit (textOf n bytes) done
       ∙ ap₂ circuit (pair-hex n (omega (arith, is .few))) (gates-decoded bytes (is .whole) (is .byte))

@@ -90,7 +90,9 @@ fn line_formed(text: &[u8], at: usize, digits: usize) -> bool
 // Stores the gates of a text without a fault from the start of what is lent, and gives their number.
 pub fn store_gates(text: &[u8], gates: &mut [u8]) -> usize
     requires { ⌜ (maxListBytes ≤ length (now gates)) × (gatesFault 0 (linesOf (drop wiresLineBytes (now text))) ≡ Done) ⌝ }
-    ensures { λ r. ⌜ Stores (now (gates .entry)) (linesDecoded (linesOf (drop wiresLineBytes (now (text .entry))))) (now (gates .exit)) r ⌝ }
+    ensures { λ r. ⌜
+        Stores (now (gates .entry)) (linesDecoded (linesOf (drop wiresLineBytes (now (text .entry))))) (now (gates .exit)) r
+        ⌝ }
 {
     let mut i: usize = 0;
     let mut at = WIRES_LINE_BYTES;
