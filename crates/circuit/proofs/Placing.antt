@@ -1,12 +1,12 @@
 -- Bytes stored one after the other in a lent buffer.
-use mathlib.Core.List.{List, [], _∷_, _++_}
+use mathlib.Core.List.{List, [], _∷_, _++_, append-nil}
 use mathlib.Core.Path.{_∙_, _≡_, ap, refl, sym}
-use Prim.Native.Nat.{_+_, _≤_, suc, ℕ}
+use Prim.Native.Nat.{_+_, _<_, _≤_, suc, ℕ}
 use native.Mathlib.Nat.{le-refl}
 use native.Mathlib.Numerals.{add-one, add-two}
 use native.Mathlib.Omega.{arith}
-use lib.ListN.{drop, length, set, take}
-use lib.Seq.{drop-drop, drop-paste, length-paste, paste, sets, sets-eq, take-length}
+use lib.ListN.{drop, drop-of-length-le, getD, length, set, take}
+use lib.Seq.{drop-drop, drop-paste, length-paste, paste, paste-suc, sets, sets-eq, take-length}
 use Rattle.circuit.specs.Lent.{KeptFrom, placed}
 
 -- stores in a row, then more from where they end
@@ -26,6 +26,18 @@ three-stored l j a b c a′ b′ c′ e f g = rw (e, f, g, add-one j, add-two j)
 
 placed-paste : (was : List ℕ) (at : ℕ) (these : List ℕ) → placed was at these ≡ paste was at these (length these)
 placed-paste was at these = ap (λ (x : List ℕ). take at was ++ x ++ drop (at + length these) was) (sym (take-length these))
+
+-- as many as there are: nothing else is left
+pub placed-all : (was these : List ℕ) → length these ≡ length was → placed was 0 these ≡ these
+placed-all was these e = ap (λ (x : List ℕ). these ++ x) (drop-of-length-le was {i = 0 + length these} (omega arith)) ∙ append-nil these
+
+-- one more of a copy
+pub paste-more : (was these : List ℕ) (at j : ℕ) {left : List ℕ} {x : ℕ} → at + length these ≤ length was → j < length these
+    → x ≡ getD these j 0 → left ≡ set (paste was at these j) (at + j) x → left ≡ paste was at these (j + 1)
+paste-more was these at j {left} {x} h l e f = f ∙ rw (e, add-one j) (paste-suc was at these j 0 (omega arith) l)
+
+pub paste-placed : (was these : List ℕ) (at j : ℕ) → j ≡ length these → paste was at these j ≡ placed was at these
+paste-placed was these at j e = ap (paste was at these) e ∙ sym (placed-paste was at these)
 
 pub length-placed : (was : List ℕ) (at : ℕ) (these : List ℕ) → at + length these ≤ length was → length (placed was at these) ≡ length was
 length-placed was at these h = ap length (placed-paste was at these) ∙ length-paste was at these (length these) h (le-refl _)

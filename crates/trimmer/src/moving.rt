@@ -4,9 +4,9 @@ ghost use Prim.Native.Nat.{_≤_};
 ghost use lib.ListN.{length};
 ghost use Rattle.circuit.specs.Limits.{logCells};
 ghost use Rattle.trimmer.specs.Steps.{AllMade, Marked, Movable, NextMove, Stepped};
-use crate::logging::put_move;
 use crate::steps::moved;
 use crate::steps::next_move;
+use circuit::copying::put_parities;
 use circuit::limits::MOVE_CELLS;
 use circuit::limits::Mark;
 use circuit::limits::MoveCell;
@@ -31,7 +31,7 @@ pub fn make_moves(n: usize, first: [Mark; TABLE_BYTES], log: &mut [MoveCell]) ->
     while is_found(s.found) {
         let cells = s.cells;
         let k = s.count;
-        put_move(log, k, &cells);
+        put_parities(&cells, log, MOVE_CELLS * k);
         s = make_move(n, s);
     }
     s
