@@ -9,11 +9,11 @@ use lib.ListN.{drop, getD, length, length-drop}
 use lib.Seq.{length-take-le}
 use Rattle.gf2.proofs.Pairing.{xor-equal}
 use Rattle.moves.proofs.Logs.{cells-checked}
-use Rattle.moves.specs.Log.{LegalCells, setOf, zOf}
+use Rattle.moves.specs.Log.{LegalCells, MoveForm, setOf, zOf}
 use Rattle.moves.specs.Move.{Balanced, Legal, Separates}
 use Rattle.moves.specs.Sets.{Ascending}
 use Rattle.carry.proofs.Deciding.{decides-as}
-use Rattle.carry.specs.Decides.{AllMembers, Decides, MoveForm}
+use Rattle.carry.specs.Decides.{AllMembers, Decides}
 
 -- a z that separates is not 0
 pub separates-some : (marks : List ℕ) (z : ℕ) (Y : List ℕ) → Separates marks z Y → z ≢ 0
@@ -31,12 +31,10 @@ set-few most cells f = rw (length-take-le (getD cells 1 0) (drop 2 cells) (omega
 -- cells are a legal move exactly if they have the form of one and the move that they say is legal
 module _ (most n : ℕ) (marks cells : List ℕ) where
   pub said-legal : MoveForm most cells → Legal most n marks (zOf cells) (setOf cells) → LegalCells most n marks cells
-  said-legal f g = cells-checked most n marks cells .1 (record { long = f .long; count = f .few; zeroes = λ i l h. f .zeros i l (omega arith); legal = g })
+  said-legal f g = cells-checked most n marks cells .1 (record { form = f; legal = g })
 
   pub legal-said : LegalCells most n marks cells → MoveForm most cells × Legal most n marks (zOf cells) (setOf cells)
-  legal-said g =
-      let h = cells-checked most n marks cells .0 g in
-      (record { long = h .long; few = h .count; zeros = λ i l k. h .zeroes i l (omega (arith, h .long)) }, h .legal)
+  legal-said g = let h = cells-checked most n marks cells .0 g in (h .form, h .legal)
 
   -- for cells of the form, the move decides; Y is the part of the cells that code takes for it
   pub move-if-legal : (Y : List ℕ) (r : Bool) → MoveForm most cells → Y ≡ setOf cells → Decides r (Legal most n marks (zOf cells) Y)

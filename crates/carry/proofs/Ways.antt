@@ -18,14 +18,14 @@ use Rattle.moves.proofs.Laws.{move-keeps-signature, move-leaves-sound, move-shr
 use Rattle.moves.proofs.Wires.{legal-wires}
 use Rattle.moves.specs.CarryOut.{carryOut}
 use Rattle.moves.specs.Decide.{isMove}
-use Rattle.moves.specs.Log.{LegalCells, setOf, zOf}
+use Rattle.moves.specs.Log.{LegalCells, MoveForm, setOf, zOf}
 use Rattle.moves.specs.Move.{Legal}
 use Rattle.circuit.proofs.TableRule.{marks-sound}
 use Rattle.circuit.proofs.TableRule.{call-passes}
 use Rattle.circuit.specs.TableFaults.{marksFault}
 use Rattle.carry.proofs.Conditions.{legal-said}
 use Rattle.carry.proofs.Deciding.{denied, granted}
-use Rattle.carry.specs.Decides.{Decides, MoveForm}
+use Rattle.carry.specs.Decides.{Decides}
 use Rattle.carry.specs.Entry.{CarriesOut, carryFault, carryReply}
 
 not-done : {P : Type 0} (number place : ℕ) → Refused number place ≡ Done → P

@@ -5,11 +5,10 @@ use mathlib.Core.Path.{_≡_}
 use Prim.Native.Nat.{ℕ, _≤_}
 use native.Mathlib.Omega.{arith}
 use Rattle.carry.proofs.Conditions.{legal-said}
-use Rattle.carry.specs.Decides.{MoveForm}
 use Rattle.circuit.specs.Limits.{maxMembers, maxWires, parities}
 use Rattle.circuit.specs.Sound.{SoundMarks}
 use Rattle.finder.proofs.OnWires.{searched-legal, searched-none}
-use Rattle.moves.specs.Log.{LegalCells}
+use Rattle.moves.specs.Log.{LegalCells, MoveForm}
 use Rattle.moves.specs.Move.{Legal}
 use Rattle.trimmer.specs.Steps.{NextMove}
 
