@@ -9,6 +9,7 @@ use lib.Seq.{length-sets, sets}
 use borrow.Rule.Slice.PartMut.{post-is, putMid}
 use Rattle.circuit.proofs.Bytes.{byteGate, gates-step, gates-tail, gatesFrom}
 use Rattle.circuit.proofs.Placing.{sets-append, sets-placed}
+use Rattle.circuit.specs.Lent.{placed}
 use Rattle.circuit.specs.Limits.{gateBytes}
 use Rattle.text.specs.Limits.{gateLineBytes}
 use Rattle.text.specs.Placed.{Writes}
@@ -46,14 +47,15 @@ pub two-written : (was : List ℕ) (at a b x y : ℕ) → at + 2 ≤ length was 
 two-written was at a b x y h e f =
     record { onward = refl; written = rw (e, f, add-one at) (sets-placed was at (a ∷ b ∷ []) (omega arith)) }
 
--- a part of the output, lent to a call that leaves these bytes in it
-pub part-written : (was bytes part : List ℕ) (at : ℕ) → part ≡ bytes
-    → Writes was at bytes (putMid at (at + length bytes - at) was part) (at + length bytes)
-part-written was bytes part at e =
-    record {
-      onward = refl;
-      written = rw (e, post-is at (at + length bytes) was (omega arith)) (sym (append-assoc (take at was) bytes _));
-    }
+-- a part of a buffer, from `at` up to `end`, was lent to a call that left these in it
+part-placed : (was part these : List ℕ) (at end : ℕ) → part ≡ these → end ≡ at + length these
+    → putMid at (end - at) was part ≡ placed was at these
+part-placed was part these at end is e =
+    rw (is, post-is at end was (omega arith), e) (sym (append-assoc (take at was) these _))
+
+pub part-written : (was part these : List ℕ) (at end : ℕ) → part ≡ these → end ≡ at + length these
+    → Writes was at these (putMid at (end - at) was part) end
+part-written was part these at end is e = record { onward = e; written = part-placed was part these at end is e }
 
 -- ---- the loop over the gates
 

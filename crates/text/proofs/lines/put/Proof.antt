@@ -1,4 +1,5 @@
 -- The part of the output that is lent holds the bytes then.
+use mathlib.Core.Path.{refl}
 use borrow.Author.Needs.{needs}
 use denote.Ref.{now}
 use Rattle.text.proofs.Writing.{part-written}
@@ -9,7 +10,7 @@ returns : tie.Need-returns
 returns c =
     let copied : tie.After-copy-bytes = search in
     let s : tie.Start = search in
-    part-written (now (s .args .out)) (now (s .args .source)) _ (s .args .at) (copied .copy-bytes .ensures)
+    part-written (now (s .args .out)) _ (now (s .args .source)) (s .args .at) _ (copied .copy-bytes .ensures) refl
 
 pub put-spec : {M : Type 1} → statement M
 put-spec =
