@@ -22,8 +22,8 @@ use Rattle.phase.proofs.WireSums.{apart-same}
 use Rattle.phase.specs.Coefficients.{l, q}
 use Rattle.phase.specs.NewWeights.{apart, oneRest, pairRest}
 use Rattle.weights.proofs.Places.{q-place}
+use Rattle.weights.specs.Lists.{qList}
 use Rattle.weights.specs.Rests.{difference, oneIn, pairIn}
-use Rattle.weights.specs.Tables.{qTable}
 
 module _ (w u : List ℕ) where
   pub length-difference : length (difference w u) ≡ length w
@@ -62,7 +62,8 @@ module _ (n : ℕ) (w u : List ℕ) (ww : Wide n w) (wu : Wide n u) where
         weightedSum-wide n D wd f,
         weightedSum-wide n w ww f,
         weightedSum-wide n u wu f,
-        sum-ext (2 ^ n) (λ p. weight D p * f p) (λ p. weight w p * f p + 7 * (weight u p * f p)) (λ p h. ap (λ (t : ℕ). t * f p) (at p h) ∙ omega arith),
+        sum-ext (2 ^ n) (λ p. weight D p * f p) (λ p. weight w p * f p + 7 * (weight u p * f p))
+            (λ p h. ap (λ (t : ℕ). t * f p) (at p h) ∙ omega arith),
         sum-add (2 ^ n) (λ p. weight w p * f p) (λ p. 7 * (weight u p * f p)),
         sum-scale (2 ^ n) 7 (λ p. weight u p * f p),
       )
@@ -70,23 +71,27 @@ module _ (n : ℕ) (w u : List ℕ) (ww : Wide n w) (wu : Wide n u) where
   -- ---- the rests by it
 
   module _ (N : ℕ) (fit : n ≤ N) where
-    pub pair-by-difference : (i j : ℕ) → i < j → j < n → 3 * getD (qTable N n D) (N * j + i) 0 ≡ pairRest w u i j
+    pub pair-by-difference : (i j : ℕ) → i < j → j < n → 3 * getD (qList N n D) (N * j + i) 0 ≡ pairRest w u i j
     unfolding q
     pair-by-difference i j h g =
-        ap (λ (t : ℕ). 3 * t) (q-place N n D fit i j h g ∙ minus4 (Q D i j) ∙ rw (difference-sum (λ p. bit p i * bit p j)) (pair-less (Q w i j) (Q u i j)))
+        ap (λ (t : ℕ). 3 * t)
+        (q-place N n D fit i j h g ∙ minus4 (Q D i j) ∙ rw (difference-sum (λ p. bit p i * bit p j)) (pair-less (Q w i j) (Q u i j)))
         ∙ sym (pairRest-is w u i j)
 
-    either-order : (i j : ℕ) → i < n → j < n → Dec (j ≡ i) → Dec (i < j) → apart i j * pairIn N (qTable N n D) i j ≡ apart i j * pairRest w u i j
+    either-order : (i j : ℕ) → i < n → j < n → Dec (j ≡ i) → Dec (i < j)
+        → apart i j * pairIn N (qList N n D) i j ≡ apart i j * pairRest w u i j
     either-order i j hi hj (yes e) d = rw (e, apart-same i) (omega arith)
     either-order i j hi hj (no ne) (yes h) = ap (λ (t : ℕ). apart i j * t) (simp (lt-ltb i j h) (pair-by-difference i j h hj))
     either-order i j hi hj (no ne) (no h) =
         ap (λ (t : ℕ). apart i j * t) (simp (le-ltb i j (omega arith)) (pair-by-difference j i (omega arith) hi) ∙ pairRest-sym w u j i)
 
-    pub one-by-difference : (i : ℕ) → i < n → oneIn N n D (qTable N n D) i ≡ oneRest n w u i
+    pub one-by-difference : (i : ℕ) → i < n → oneIn N n D (qList N n D) i ≡ oneRest n w u i
     unfolding oneRest l
     one-by-difference i h =
         simp (lt-ltb i n h)
         (rw (difference-sum (λ p. bit p i), pairs) (one-less (L w i) (L u i) (sum n (λ j. apart i j * pairRest w u i j))))
       where
-        pairs : sum n (λ j. apart i j * pairIn N (qTable N n D) i j) ≡ sum n (λ j. apart i j * pairRest w u i j)
-        pairs = sum-ext n (λ j. apart i j * pairIn N (qTable N n D) i j) (λ j. apart i j * pairRest w u i j) (λ j hj. either-order i j h hj (ℕ-discrete j i) (decLt i j))
+        pairs : sum n (λ j. apart i j * pairIn N (qList N n D) i j) ≡ sum n (λ j. apart i j * pairRest w u i j)
+        pairs =
+            sum-ext n (λ j. apart i j * pairIn N (qList N n D) i j) (λ j. apart i j * pairRest w u i j)
+            (λ j hj. either-order i j h hj (ℕ-discrete j i) (decLt i j))

@@ -21,12 +21,14 @@ square a (suc (suc b)) h = absurd (omega arith)
 
 pub l-by-sum : (w : List ℕ) (i : ℕ) → sumWith w i i i % 8 ≡ l w i
 unfolding l
-l-by-sum w i = ap (λ (s : ℕ). s % 8) (weightedSum-ext w (λ p. bit p i * bit p i * bit p i) (λ p. bit p i) (λ p. cube (bit p i) (bit-lt p i)))
+l-by-sum w i =
+    ap (λ (s : ℕ). s % 8) (weightedSum-ext w (λ p. bit p i * bit p i * bit p i) (λ p. bit p i) (λ p. cube (bit p i) (bit-lt p i)))
 
 pub q-by-sum : (w : List ℕ) (i j : ℕ) → (4 - sumWith w i j j % 4) % 4 ≡ q w i j
 unfolding q
 q-by-sum w i j =
-    ap (λ (s : ℕ). (4 - s % 4) % 4) (weightedSum-ext w (λ p. bit p i * bit p j * bit p j) (λ p. bit p i * bit p j) (λ p. square (bit p i) (bit p j) (bit-lt p j)))
+    ap (λ (s : ℕ). (4 - s % 4) % 4)
+    (weightedSum-ext w (λ p. bit p i * bit p j * bit p j) (λ p. bit p i * bit p j) (λ p. square (bit p i) (bit p j) (bit-lt p j)))
 
 pub c-by-sum : (w : List ℕ) (i j k : ℕ) → sumWith w i j k % 2 ≡ c w i j k
 unfolding c

@@ -1,4 +1,4 @@
--- The steps of the code that finds the new weights, over plain numbers and lists. N is the most wires that a table has room for.
+-- The steps of the code that finds the new weights, over plain numbers and lists. N is the most wires that a list has room for.
 use mathlib.Core.List.{List}
 use mathlib.Core.Logic.{_≢_}
 use mathlib.Core.Path.{ap, refl, sym, _∙_, _≡_}
@@ -6,8 +6,9 @@ use Prim.Native.Nat.{_%_, _*_, _+_, _-_, _<_, _^_, suc, zero, ℕ, _≤_}
 use native.Mathlib.Decide.{decLt}
 use native.Mathlib.Numerals.{add-one}
 use native.Mathlib.Omega.{arith}
-use lib.Count.{ones, trailingZeros}
+use lib.Count.{ones, onesIn, trailingZeros}
 use lib.ListN.{getD, length, take}
+use lib.Pow.{pow-pos}
 use lib.Seq.{ext-getD}
 use borrow.Author.Tests.{le-ltb, lt-ltb}
 use Rattle.circuit.specs.Sound.{SoundMarks, SoundWeights, weight}
@@ -21,8 +22,8 @@ use Rattle.phase.proofs.Wires.{is-one, is-two, low-one, low-two, next-two}
 use Rattle.phase.specs.NewWeights.{apart, byWires, low, newWeight, newWeights, next, oneRest, pairRest, rest}
 use Rattle.weights.proofs.Difference.{one-by-difference, pair-by-difference}
 use Rattle.weights.proofs.Places.{length-weights, one-at, weights-at}
+use Rattle.weights.specs.Lists.{lEntry, qList}
 use Rattle.weights.specs.Rests.{difference, mostRest, newIn, oneIn, oneRests, pairIn, restIn, weightIn, weightsIn}
-use Rattle.weights.specs.Tables.{lEntry, qTable}
 
 -- ---- the rest of a pair, and those with wire i summed
 
@@ -50,20 +51,26 @@ one-end N n d qs i a s e f = rw (e, f)
 
 -- ---- the rest on p, by the number of its wires
 
+-- a parity that names a wire is not 0
+pub some-wire : (p m : ℕ) → ones p ≡ suc m → p ≢ 0
+unfolding ones onesIn
+some-wire p m e z = omega (arith, ap ones z)
+
 module _ (N n p : ℕ) (fit : n ≤ N) (inside : p < 2 ^ n) where
-  pub one-inside : ones p ≡ 1 → low N p < n
+  one-inside : ones p ≡ 1 → low N p < n
   one-inside o = let t = is-one n p inside o in rw (t .2, low-one N (t .0) (omega (arith, t .1))) (t .1)
 
-  -- of two wires the lowest can be taken away
-  pub low-inside : ones p ≡ 2 → (low N p < N) × (2 ^ low N p ≤ p)
-  low-inside o =
+  -- of two wires the lowest, i, can be taken away, and one is left
+  pub one-left : (i : ℕ) → i ≡ low N p → ones p ≡ 2 → (2 ^ i ≤ p) × (p - 2 ^ i ≢ 0)
+  one-left i e o =
       let t = is-two n p inside o in
       let h : t .0 < N = omega (arith, t .2, t .3) in
-      let e : low N p ≡ t .0 = ap (λ (x : ℕ). trailingZeros N x) (t .4) ∙ low-two N (t .0) (t .1) (t .2) h in
-      (omega (arith, e), omega (arith, ap (λ (x : ℕ). 2 ^ x) e, t .4))
+      let f : i ≡ t .0 = e ∙ ap (λ (x : ℕ). trailingZeros N x) (t .4) ∙ low-two N (t .0) (t .1) (t .2) h in
+      let g : 2 ^ i ≡ 2 ^ t .0 = ap (λ (x : ℕ). 2 ^ x) f in
+      (omega (arith, t .4), omega (arith, t .4, pow-pos (t .1)))
 
-  -- and then the next one is a higher wire
-  pub next-inside : ones p ≡ 2 → (low N p < next N p) × (next N p < n)
+  -- which is a higher wire
+  next-inside : ones p ≡ 2 → (low N p < next N p) × (next N p < n)
   next-inside o =
       let t = is-two n p inside o in
       let h : t .0 < N = omega (arith, t .2, t .3) in
@@ -75,7 +82,8 @@ module _ (N : ℕ) (one qs : List ℕ) (p : ℕ) where
   unfolding byWires
   rest-one-wire i o e = rw (o, e)
 
-  pub rest-two-wires : (i m j r : ℕ) → ones p ≡ 2 → i ≡ low N p → m ≡ p - 2 ^ i → j ≡ trailingZeros N m → r ≡ 3 * getD qs (N * j + i) 0 → r ≡ restIn N one qs p
+  pub rest-two-wires : (i m j r : ℕ) → ones p ≡ 2 → i ≡ low N p → m ≡ p - 2 ^ i → j ≡ trailingZeros N m → r ≡ 3 * getD qs (N * j + i) 0
+      → r ≡ restIn N one qs p
   unfolding byWires
   rest-two-wires i m j r o e f g h = rw (o, h, g, f, e)
 
@@ -98,18 +106,19 @@ module _ (N n : ℕ) (one qs : List ℕ) (mark p : ℕ) where
   pub weight-above : 2 ^ n ≤ p → 0 ≡ weightIn N n one qs mark p
   weight-above h = simp (le-ltb p (2 ^ n) h)
 
-pub length-new : (size n : ℕ) (w u : List ℕ) → 2 ^ n ≤ size → length (newWeights size n w u) ≡ size
+length-new : (size n : ℕ) (w u : List ℕ) → 2 ^ n ≤ size → length (newWeights size n w u) ≡ size
 unfolding newWeights
 length-new size n w u h = pad-length size n (newWeight n w u) h
 
 -- ---- the difference gives the new weights
 
-pub by-difference : (size N n : ℕ) (d u qs one out : List ℕ) → qs ≡ qTable N n d → one ≡ oneRests N n d qs → out ≡ weightsIn size N n one qs u → out ≡ newIn size N n d u
+pub by-difference : (size N n : ℕ) (d u qs one out : List ℕ) → qs ≡ qList N n d → one ≡ oneRests N n d qs
+    → out ≡ weightsIn size N n one qs u → out ≡ newIn size N n d u
 by-difference size N n d u qs one out e f g = g ∙ rw (f, e)
 
 module _ (size N n : ℕ) (w u : List ℕ) (fit : n ≤ N) (ww : Wide n w) (wu : Wide n u) where
   abbrev qs : List ℕ
-  qs = qTable N n (take (2 ^ n) (difference w u))
+  qs = qList N n (take (2 ^ n) (difference w u))
 
   abbrev one : List ℕ
   one = oneRests N n (take (2 ^ n) (difference w u)) qs
@@ -120,7 +129,8 @@ module _ (size N n : ℕ) (w u : List ℕ) (fit : n ≤ N) (ww : Wide n w) (wu :
   looked-up p h = go (ones p) refl ∙ sym (rest-at-width w u n N p fit h)
     where
       go : (o : ℕ) → ones p ≡ o
-          → byWires o (getD one (low N p) 0) (3 * getD qs (N * next N p + low N p) 0) ≡ byWires o (oneRest n w u (low N p)) (pairRest w u (low N p) (next N p))
+          → byWires o (getD one (low N p) 0) (3 * getD qs (N * next N p + low N p) 0)
+          ≡ byWires o (oneRest n w u (low N p)) (pairRest w u (low N p) (next N p))
       go zero e = refl
       go (suc zero) e =
           let i = one-inside N n p fit h e in
@@ -134,7 +144,7 @@ module _ (size N n : ℕ) (w u : List ℕ) (fit : n ≤ N) (ww : Wide n w) (wu :
   at p (yes h) = sym (weight-below N n one qs (weight u p) p (rest n w u p) h (sym (looked-up p h))) ∙ sym (new-low size n w u p h)
   at p (no h) = sym (weight-above N n one qs (weight u p) p (omega arith)) ∙ sym (new-high size n w u p (omega arith))
 
-  pub new-by-difference : 2 ^ n ≤ size → newIn size N n (take (2 ^ n) (difference w u)) u ≡ newWeights size n w u
+  new-by-difference : 2 ^ n ≤ size → newIn size N n (take (2 ^ n) (difference w u)) u ≡ newWeights size n w u
   new-by-difference room =
       ext-getD 0 (weightsIn size N n one qs u) (newWeights size n w u) (length-weights size N n one qs u ∙ sym (length-new size n w u room))
       (λ p h. sym (weights-at size N n one qs u p (omega (arith, length-weights size N n one qs u))) ∙ at p (decLt p (2 ^ n)))

@@ -17,7 +17,7 @@ use Rattle.weights.specs.Sums.{quarterOf}
 abbrev pub read : ℤ → ℤ
 read t = toZ w32 (ofZ w32 t)
 
-pub read-is : (t : ℤ) → SFits w32 t → read t ≡ t
+read-is : (t : ℤ) → SFits w32 t → read t ≡ t
 read-is t f = toZ-ofZ w32 t f
 
 pub small-fits : (t : ℤ) (n : ℕ) → t ≡ pos n → n < 2 ^ 31 → SFits w32 t
@@ -40,13 +40,21 @@ quot-fits m t f = rw (read-is t f) (record { sfits = omega (arith, mag-quot t m,
 rem-fits : (t : ℤ) (m : ℕ) → SFits w32 t → SFits w32 (remZ t (pos m))
 rem-fits t m f = record { sfits = omega (arith, mag-rem t (pos m), f .sfits) }
 
--- the remainder of a number that is not negative
-pub rem-is : (m : ℕ) (t : ℤ) (n : ℕ) → t ≡ pos n → n < 2 ^ 31 → read (remZ (read t) (pos m)) ≡ pos (n % m)
-rem-is m t n e h = rw (e, read-is (pos n) (small-fits (pos n) n refl h)) (read-is (pos (n % m)) (small-fits (pos (n % m)) (n % m) refl (omega (arith, mod-le n m))))
+-- a number that is not negative: its quotient fits, and its remainder may be cast to a byte and is that of n
+module _ (m : ℕ) (t : ℤ) (n : ℕ) (e : t ≡ pos n) (h : n < 2 ^ 31) where
+  rem-is : read (remZ (read t) (pos m)) ≡ pos (n % m)
+  rem-is =
+      rw (e, read-is (pos n) (small-fits (pos n) n refl h))
+      (read-is (pos (n % m)) (small-fits (pos (n % m)) (n % m) refl (omega (arith, mod-le n m))))
 
--- it may be cast to a byte
-pub byte-cast : (t : ℤ) (n : ℕ) → t ≡ pos n → n < 256 → T (nonNeg t) × Fits w8 (natAbs t)
-byte-cast t n e h = rw e (tt, record { fits = h })
+  pub small-quot : SFits w32 (quotZ (read t) (pos m))
+  small-quot = quot-fits m t (small-fits t n e h)
+
+  pub rem-byte : n % m < 256 → T (nonNeg (read (remZ (read t) (pos m)))) × Fits w8 (natAbs (read (remZ (read t) (pos m))))
+  rem-byte b = rw rem-is (tt, record { fits = b })
+
+  pub rem-value : natAbs (read (remZ (read t) (pos m))) ≡ n % m
+  rem-value = ap natAbs rem-is
 
 -- ---- brought back to 0..3
 

@@ -17,18 +17,6 @@ use Rattle.gf2.specs.Sum.{sum}
 use Rattle.gf2.specs.Table.{weightedSum}
 use Rattle.weights.specs.Sums.{sumWith}
 
--- ---- one step: r is added to s
-
-module _ (s r : ℕ) (z : ℤ) (e : z ≡ pos r) (h : s + r < 2 ^ 31) where
-  added-is : toZ w32 s +ℤ toZ w32 (ofZ w32 z) ≡ pos (s + r)
-  added-is = rw (e, toZ-pos w32 s (omega arith), toZ-pos w32 r (omega arith))
-
-  pub added-fits : SFits w32 (toZ w32 s +ℤ toZ w32 (ofZ w32 z))
-  added-fits = rw added-is (record { sfits = h })
-
-  pub added-bits : ofZ w32 (toZ w32 s +ℤ toZ w32 (ofZ w32 z)) ≡ s + r
-  added-bits = rw added-is
-
 -- ---- the sum so far
 
 -- the sum over the first m parities
@@ -39,15 +27,17 @@ soFar w i j k m = sum m (λ p. getD w p 0 * (bit p i * bit p j * bit p k))
 abbrev pub shareOf : ℕ → ℕ → ℕ → ℕ → ℕ → ℕ
 shareOf x p i j k = x * (bit p i * bit p j * bit p k)
 
-pub share-le : (x p i j k : ℕ) → shareOf x p i j k ≤ x
-share-le x p i j k = go (bit p i * bit p j * bit p k) (mul-lt (bit p i * bit p j) (bit p k) (mul-lt (bit p i) (bit p j) (bit-lt p i) (bit-lt p j)) (bit-lt p k))
+share-le : (x p i j k : ℕ) → shareOf x p i j k ≤ x
+share-le x p i j k =
+    go (bit p i * bit p j * bit p k)
+    (mul-lt (bit p i * bit p j) (bit p k) (mul-lt (bit p i) (bit p j) (bit-lt p i) (bit-lt p j)) (bit-lt p k))
   where
     go : (b : ℕ) → b < 2 → x * b ≤ x
     go zero h = omega arith
     go (suc zero) h = omega arith
     go (suc (suc b)) h = absurd (omega arith)
 
-pub so-far-next : (w : List ℕ) (i j k p : ℕ) → soFar w i j k p + shareOf (getD w p 0) p i j k ≡ soFar w i j k (p + 1)
+so-far-next : (w : List ℕ) (i j k p : ℕ) → soFar w i j k p + shareOf (getD w p 0) p i j k ≡ soFar w i j k (p + 1)
 so-far-next w i j k p = sym (ap (soFar w i j k) (add-one p) ∙ sum-suc p (λ p. getD w p 0 * (bit p i * bit p j * bit p k)))
 
 pub so-far-all : (w : List ℕ) (i j k p s : ℕ) → p ≡ length w → s ≡ soFar w i j k p → s < 2 ^ 31 → toZ w32 s ≡ pos (sumWith w i j k)
@@ -57,6 +47,38 @@ so-far-all w i j k p s e f h = toZ-pos w32 s h ∙ ap pos (f ∙ ap (soFar w i j
 pub sum-small : (w : List ℕ) (i j k p s b : ℕ) → p ≡ length w → s ≡ soFar w i j k p → s ≤ b → sumWith w i j k ≤ b
 unfolding weightedSum
 sum-small w i j k p s b e f h = rw (← e, ← f) h
+
+-- ---- one step
+
+-- s is the sum over the first p parities, and z is what p adds
+pub record Turn (w : List ℕ) (i j k p s : ℕ) (z : ℤ) : Type 0 where
+  pub sum-so-far : s ≡ soFar w i j k p
+  pub small : s ≤ 255 * p
+  pub byte : getD w p 0 ≤ 255
+  pub few : 255 * (p + 1) < 2 ^ 31
+  pub share : z ≡ pos (shareOf (getD w p 0) p i j k)
+
+module _ {w : List ℕ} {i j k p s : ℕ} {z : ℤ} (t : Turn w i j k p s z) where
+  abbrev r : ℕ
+  r = shareOf (getD w p 0) p i j k
+
+  at-most : s + r ≤ 255 * (p + 1)
+  at-most = omega (arith, share-le (getD w p 0) p i j k, t .small, t .byte)
+
+  fits : s + r < 2 ^ 31
+  fits = omega (arith, at-most, t .few)
+
+  added-is : toZ w32 s +ℤ toZ w32 (ofZ w32 z) ≡ pos (s + r)
+  added-is = rw (t .share, toZ-pos w32 s (omega (arith, fits)), toZ-pos w32 r (omega (arith, fits)))
+
+  pub turn-fits : SFits w32 (toZ w32 s +ℤ toZ w32 (ofZ w32 z))
+  turn-fits = rw added-is (record { sfits = fits })
+
+  pub turn-sums : ofZ w32 (toZ w32 s +ℤ toZ w32 (ofZ w32 z)) ≡ soFar w i j k (p + 1)
+  turn-sums = rw added-is (ap (λ (x : ℕ). x + r) (t .sum-so-far) ∙ so-far-next w i j k p)
+
+  pub turn-small : ofZ w32 (toZ w32 s +ℤ toZ w32 (ofZ w32 z)) ≤ 255 * (p + 1)
+  turn-small = rw added-is at-most
 
 -- ---- what one parity adds, by its bits
 

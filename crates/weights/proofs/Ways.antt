@@ -1,98 +1,79 @@
--- One law for each way out of the entries: the tests that led there give the reply, and the buffers are as it says.
+-- No fault, exactly where a call brings and lends what it must: what an entry knows where it goes on to write, and what Laws says of its
+-- reply.
 use mathlib.Core.List.{List}
-use mathlib.Core.Logic.{_≢_}
-use mathlib.Core.Path.{ap, refl, sym, _∙_, _≡_}
+use mathlib.Core.Logic.{_↔_}
+use mathlib.Core.Path.{sym, _∙_, _≡_}
 use Prim.Native.Nat.{ℕ, _≤_}
 use native.Mathlib.Omega.{arith}
 use lib.ListN.{length}
-use Rattle.circuit.proofs.Judging.{lent-pass, or-pass, or-well, refused, wires-pass, wires-well}
-use Rattle.circuit.specs.Faults.{lentFault, orElse, wiresFault}
+use Rattle.circuit.proofs.Judging.{lent-pass, lent-well, or-pass, or-well}
+use Rattle.circuit.proofs.TableRule.{call-passes, marks-sound, passes-call, weights-sound}
+use Rattle.circuit.specs.Faults.{lentFault, orElse}
 use Rattle.circuit.specs.Limits.{maxWires, pairBytes, parities, tableBytes, tripleBytes}
-use Rattle.circuit.specs.OddSet.{oddSet}
 use Rattle.circuit.specs.Sound.{SoundMarks, SoundWeights}
-use Rattle.circuit.specs.declared.Reply.the-variants.{Done, Refused}
-use Rattle.phase.specs.NewWeights.{newWeights}
-use Rattle.circuit.proofs.TableRule.{marks-sound, weights-sound}
-use Rattle.weights.specs.Entry.{CoefficientsOf, NewWeightsOf, OddSetOf, coefficientsFault, newWeightsFault, oddSetFault, replyOf, tablesFault}
 use Rattle.circuit.specs.TableFaults.{callFault, marksFault, weightsFault}
-use Rattle.weights.specs.Tables.{TablesFit, TablesOf}
+use Rattle.weights.specs.Entry.{coefficientsFault, listsFault, newWeightsFault, oddSetFault}
+use Rattle.weights.specs.Lists.{ListsFit}
 
--- a call's fault f is the one that the definition g gives
-module _ (f g : ℕ) (e : f ≡ g) where
-  refusal : f ≢ 0 → Refused f 0 ≡ replyOf g
-  refusal h = sym (refused f 0 Done h) ∙ ap replyOf e
+-- a wire count of 1 to 8
+abbrev pub Wires : ℕ → Type 0
+Wires n = (1 ≤ n) × (n ≤ maxWires)
 
-  done : f ≡ 0 → Done ≡ replyOf g
-  done z = rw (← e, z)
+-- ---- the checks that every entry makes
 
--- no fault: each check has passed
-pub call-passes : (n lent table : ℕ) → callFault n lent table ≡ 0 → (1 ≤ n) × (n ≤ maxWires) × (lent ≡ 0) × (table ≡ 0)
-call-passes n lent table e =
-    let a = or-pass (wiresFault n) (orElse lent table) e in
-    let b = or-pass lent table (a .1) in
-    let w = wires-pass n (a .0) in
-    (w .0, w .1, b .0, b .1)
+weights-passes : (n lent : ℕ) (w : List ℕ) → (callFault n lent (weightsFault n w) ≡ 0) ↔ (Wires n × (lent ≡ 0) × SoundWeights parities n w)
+weights-passes n lent w = (
+  λ e. let a = call-passes n lent (weightsFault n w) e in ((a .0, a .1), a .2, weights-sound parities n w .0 (a .3)),
+  λ s. passes-call n lent (weightsFault n w) (s .0 .0) (s .0 .1) (s .1) (weights-sound parities n w .1 (s .2)),
+)
 
-pub passes-call : (n lent table : ℕ) → 1 ≤ n → n ≤ maxWires → lent ≡ 0 → table ≡ 0 → callFault n lent table ≡ 0
-passes-call n lent table a b e f = or-well (wiresFault n) (orElse lent table) (wires-well n a b) (or-well lent table e f)
+-- ---- the entries
 
--- ---- odd_set
+pub odd-set-passes : (n : ℕ) (w : List ℕ) (marks : ℕ)
+    → (oddSetFault n w marks ≡ 0) ↔ (Wires n × (marks ≡ tableBytes) × SoundWeights parities n w)
+odd-set-passes n w marks = (
+  λ e. let a = weights-passes n (lentFault marks tableBytes) w .0 e in (a .0, lent-pass marks tableBytes (a .1), a .2),
+  λ s. weights-passes n (lentFault marks tableBytes) w .1 (s .0, lent-well marks tableBytes (s .1), s .2),
+)
 
-module _ (n : ℕ) (w m : List ℕ) (f : ℕ) (e : f ≡ oddSetFault n w (length m)) where
-  pub odd-refused : f ≢ 0 → OddSetOf n w m m (Refused f 0)
-  odd-refused h = record { reply = refusal f (oddSetFault n w (length m)) e h; marks-left = refl }
+-- the lengths of the three lists
+abbrev pub Lengths : ℕ → ℕ → ℕ → Type 0
+Lengths l q c = (l ≡ maxWires) × (q ≡ pairBytes) × (c ≡ tripleBytes)
 
-  module _ (z : f ≡ 0) where
-    passed : (1 ≤ n) × (n ≤ maxWires) × (lentFault (length m) tableBytes ≡ 0) × (weightsFault n w ≡ 0)
-    passed = call-passes n (lentFault (length m) tableBytes) (weightsFault n w) (sym e ∙ z)
+lists-passes : (l q c : ℕ) → (listsFault l q c ≡ 0) ↔ Lengths l q c
+lists-passes l q c = (
+  λ e. let a = or-pass (lentFault l maxWires) (orElse (lentFault q pairBytes) (lentFault c tripleBytes)) e in
+      let b = or-pass (lentFault q pairBytes) (lentFault c tripleBytes) (a .1) in
+      (lent-pass l maxWires (a .0), lent-pass q pairBytes (b .0), lent-pass c tripleBytes (b .1)),
+  λ s. or-well _ _ (lent-well l maxWires (s .0)) (or-well _ _ (lent-well q pairBytes (s .1)) (lent-well c tripleBytes (s .2))),
+)
 
-    pub odd-fits : length w ≡ length m
-    odd-fits = weights-sound parities n w .0 (passed .3) .long ∙ sym (lent-pass (length m) tableBytes (passed .2))
+pub coefficients-passes : (n : ℕ) (w : List ℕ) (l q c : ℕ)
+    → (coefficientsFault n w l q c ≡ 0) ↔ (Wires n × Lengths l q c × SoundWeights parities n w)
+coefficients-passes n w l q c = (
+  λ e. let a = weights-passes n (listsFault l q c) w .0 e in (a .0, lists-passes l q c .0 (a .1), a .2),
+  λ s. weights-passes n (listsFault l q c) w .1 (s .0, lists-passes l q c .1 (s .1), s .2),
+)
 
-    pub odd-done : (m′ : List ℕ) → m′ ≡ oddSet w → OddSetOf n w m m′ Done
-    odd-done m′ p = record { reply = done f (oddSetFault n w (length m)) e z; marks-left = p }
+pub new-weights-passes : (n : ℕ) (w marks : List ℕ) (out : ℕ)
+    → (newWeightsFault n w marks out ≡ 0) ↔ (Wires n × (out ≡ tableBytes) × (SoundWeights parities n w × SoundMarks parities n marks))
+new-weights-passes n w marks out = (
+  λ e. let a = or-pass (oddSetFault n w out) (marksFault n marks) e in
+      let b = odd-set-passes n w out .0 (a .0) in
+      (b .0, b .1, (b .2, marks-sound parities n marks .0 (a .1))),
+  λ s. or-well _ _ (odd-set-passes n w out .1 (s .0, s .1, s .2 .0)) (marks-sound parities n marks .1 (s .2 .1)),
+)
 
--- ---- coefficients
+-- ---- what the writers need, where the fault f that was found is none
 
-module _ (n : ℕ) (w l q c : List ℕ) (f : ℕ) (e : f ≡ coefficientsFault n w (length l) (length q) (length c)) where
-  pub tables-refused : f ≢ 0 → CoefficientsOf n w l q c l q c (Refused f 0)
-  tables-refused h =
-      record { reply = refusal f (coefficientsFault n w (length l) (length q) (length c)) e h; l-left = refl; q-left = refl; c-left = refl }
+pub odd-fits : (n : ℕ) (w m : List ℕ) (f : ℕ) → f ≡ oddSetFault n w (length m) → f ≡ 0 → length w ≡ length m
+odd-fits n w m f e z = let a = odd-set-passes n w (length m) .0 (sym e ∙ z) in a .2 .long ∙ sym (a .1)
 
-  module _ (z : f ≡ 0) where
-    pub tables-fit : TablesFit w l q c
-    tables-fit =
-        let pairs : ℕ = orElse (lentFault (length q) pairBytes) (lentFault (length c) tripleBytes) in
-        let a = call-passes n (tablesFault (length l) (length q) (length c)) (weightsFault n w) (sym e ∙ z) in
-        let b = or-pass (lentFault (length l) maxWires) pairs (a .2) in
-        let d = or-pass (lentFault (length q) pairBytes) (lentFault (length c) tripleBytes) (b .1) in
-        record {
-          weights-fit = omega (arith, weights-sound parities n w .0 (a .3) .long);
-          l-fits = lent-pass (length l) maxWires (b .0);
-          q-fits = lent-pass (length q) pairBytes (d .0);
-          c-fits = lent-pass (length c) tripleBytes (d .1);
-        }
+pub lists-fit : (n : ℕ) (w l q c : List ℕ) (f : ℕ) → f ≡ coefficientsFault n w (length l) (length q) (length c) → f ≡ 0 → ListsFit w l q c
+lists-fit n w l q c f e z =
+    let a = coefficients-passes n w (length l) (length q) (length c) .0 (sym e ∙ z) in
+    record { weights-fit = omega (arith, a .2 .long); l-fits = a .1 .0; q-fits = a .1 .1; c-fits = a .1 .2 }
 
-    pub tables-done : (l′ q′ c′ : List ℕ) → TablesOf n w l′ q′ c′ → CoefficientsOf n w l q c l′ q′ c′ Done
-    tables-done l′ q′ c′ t =
-        record { reply = done f (coefficientsFault n w (length l) (length q) (length c)) e z; l-left = t .l-is; q-left = t .q-is; c-left = t .c-is }
-
--- ---- new_weights
-
-module _ (n : ℕ) (w m out : List ℕ) (f : ℕ) (e : f ≡ newWeightsFault n w m (length out)) where
-  pub new-refused : f ≢ 0 → NewWeightsOf n w m out out (Refused f 0)
-  new-refused h = record { reply = refusal f (newWeightsFault n w m (length out)) e h; out-left = refl }
-
-  module _ (z : f ≡ 0) where
-    pub new-fits : (n ≤ maxWires) × SoundWeights parities n w × SoundMarks parities n m × (length out ≡ tableBytes)
-    new-fits =
-        let a = call-passes n (lentFault (length out) tableBytes) (orElse (weightsFault n w) (marksFault n m)) (sym e ∙ z) in
-        let b = or-pass (weightsFault n w) (marksFault n m) (a .3) in (
-          a .1,
-          weights-sound parities n w .0 (b .0),
-          marks-sound parities n m .0 (b .1),
-          lent-pass (length out) tableBytes (a .2),
-        )
-
-    pub new-done : (out′ : List ℕ) → out′ ≡ newWeights parities n w m → NewWeightsOf n w m out out′ Done
-    new-done out′ p = record { reply = done f (newWeightsFault n w m (length out)) e z; out-left = p }
+pub new-fits : (n : ℕ) (w m out : List ℕ) (f : ℕ) → f ≡ newWeightsFault n w m (length out) → f ≡ 0
+    → (n ≤ maxWires) × SoundWeights parities n w × SoundMarks parities n m × (length out ≡ tableBytes)
+new-fits n w m out f e z = let a = new-weights-passes n w m (length out) .0 (sym e ∙ z) in (a .0 .1, a .2 .0, a .2 .1, a .1)

@@ -1,4 +1,5 @@
--- The entries `odd_set`, `coefficients` and `new_weights`: the reply of each, and what it leaves in the lent buffers, for sound and faulty arguments alike.
+-- The entries `odd_set`, `coefficients` and `new_weights`: the reply of each, and what it leaves in the lent buffers, for sound and faulty
+-- arguments alike.
 use mathlib.Core.List.{List}
 use mathlib.Core.Path.{_≡_}
 use Prim.Native.Nat.{ℕ}
@@ -7,10 +8,10 @@ use Rattle.circuit.specs.Entry.{after}
 use Rattle.circuit.specs.Faults.{callReply, lentFault, orElse}
 use Rattle.circuit.specs.Limits.{maxWires, pairBytes, parities, tableBytes, tripleBytes}
 use Rattle.circuit.specs.OddSet.{oddSet}
+use Rattle.circuit.specs.TableFaults.{callFault, marksFault, weightsFault}
 use Rattle.circuit.specs.declared.Reply.{Reply}
 use Rattle.phase.specs.NewWeights.{newWeights}
-use Rattle.circuit.specs.TableFaults.{callFault, marksFault, weightsFault}
-use Rattle.weights.specs.Tables.{cTable, lTable, qTable}
+use Rattle.weights.specs.Lists.{cList, lList, qList}
 
 -- ---- odd_set
 
@@ -25,20 +26,20 @@ pub record OddSetOf (n : ℕ) (weights marks marks′ : List ℕ) (r : Reply) : 
 
 -- ---- coefficients
 
--- 8, by the lengths of the tables lent
-abbrev pub tablesFault : ℕ → ℕ → ℕ → ℕ
-tablesFault l q c = orElse (lentFault l maxWires) (orElse (lentFault q pairBytes) (lentFault c tripleBytes))
+-- 8, by the lengths of the lists lent
+abbrev pub listsFault : ℕ → ℕ → ℕ → ℕ
+listsFault l q c = orElse (lentFault l maxWires) (orElse (lentFault q pairBytes) (lentFault c tripleBytes))
 
 -- 1, 8, 6, by the weights and those lengths
 abbrev pub coefficientsFault : ℕ → List ℕ → ℕ → ℕ → ℕ → ℕ
-coefficientsFault n w l q c = callFault n (tablesFault l q c) (weightsFault n w)
+coefficientsFault n w l q c = callFault n (listsFault l q c) (weightsFault n w)
 
--- `coefficients`, called with these weights and tables, replies r and leaves l′, q′ and c′
+-- `coefficients`, called with these weights and lists, replies r and leaves l′, q′ and c′
 pub record CoefficientsOf (n : ℕ) (weights l q c l′ q′ c′ : List ℕ) (r : Reply) : Type 0 where
   pub reply : r ≡ callReply (coefficientsFault n weights (length l) (length q) (length c))
-  pub l-left : l′ ≡ after r (lTable maxWires n weights) l
-  pub q-left : q′ ≡ after r (qTable maxWires n weights) q
-  pub c-left : c′ ≡ after r (cTable maxWires n weights) c
+  pub l-left : l′ ≡ after r (lList maxWires n weights) l
+  pub q-left : q′ ≡ after r (qList maxWires n weights) q
+  pub c-left : c′ ≡ after r (cList maxWires n weights) c
 
 -- ---- new_weights
 

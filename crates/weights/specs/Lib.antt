@@ -1,4 +1,4 @@
 pub mod Sums
-pub mod Tables
+pub mod Lists
 pub mod Rests
 pub mod Entry

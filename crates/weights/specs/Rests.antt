@@ -1,15 +1,18 @@
--- The new weights as the code finds them: by the coefficients of the difference of weights w and marks u. N is the most wires that a table has room for.
+-- The new weights as the code finds them: by the coefficients of the difference of weights w and marks u. N is the most wires that a list
+-- has room for.
 use mathlib.Core.List.{List}
-use Prim.Native.Nat.{_%_, _*_, _+_, _^_, ℕ}
+use mathlib.Core.Path.{_≡_}
+use Prim.Native.Nat.{_%_, _*_, _+_, _^_, ℕ, _≤_}
 use lib.Count.{ones}
 use lib.Dec.{ltb}
 use lib.ListN.{getD, length}
+use Rattle.circuit.specs.Limits.{maxWires, pairBytes, parities, tableBytes}
 use Rattle.circuit.specs.Read.{either}
 use Rattle.circuit.specs.Sound.{weight}
 use Rattle.gf2.specs.Sum.{sum}
 use Rattle.gf2.specs.Table.{tabulate}
 use Rattle.phase.specs.NewWeights.{apart, byWires, low, next}
-use Rattle.weights.specs.Tables.{lEntry, qTable}
+use Rattle.weights.specs.Lists.{lEntry, qList}
 
 -- no rest is more than three times a byte, before it is reduced
 abbrev pub mostRest : ℕ
@@ -19,7 +22,7 @@ mostRest = 3 * 255
 unfoldable pub difference : List ℕ → List ℕ → List ℕ
 difference w u = tabulate (length w) (λ p. weight w p + 7 * weight u p)
 
--- the rest on wires i and j, in either order, by the table of q
+-- the rest on wires i and j, in either order, by the list of q
 abbrev pub pairIn : ℕ → List ℕ → ℕ → ℕ → ℕ
 pairIn N qs i j = 3 * either (ltb i j) (getD qs (N * j + i) 0) (getD qs (N * i + j) 0)
 
@@ -45,4 +48,21 @@ weightsIn size N n one qs u = tabulate size (λ p. weightIn N n one qs (weight u
 
 -- by the coefficients of the difference d
 abbrev pub newIn : ℕ → ℕ → ℕ → List ℕ → List ℕ → List ℕ
-newIn size N n d u = weightsIn size N n (oneRests N n d (qTable N n d)) (qTable N n d) u
+newIn size N n d u = weightsIn size N n (oneRests N n d (qList N n d)) (qList N n d) u
+
+-- ---- what the code takes
+
+-- a difference for n wires, of no more parities than there are
+pub record DifferenceFits (n : ℕ) (d : List ℕ) : Type 0 where
+  pub few : n ≤ maxWires
+  pub long : length d ≤ parities
+
+-- a rest for each wire, and q for each two
+pub record RestsFit (one q : List ℕ) : Type 0 where
+  pub one-fits : length one ≡ maxWires
+  pub q-fits : length q ≡ pairBytes
+
+-- marks, and weights to be written
+pub record TablesFit (marks out : List ℕ) : Type 0 where
+  pub marks-fit : length marks ≡ tableBytes
+  pub out-fits : length out ≡ tableBytes

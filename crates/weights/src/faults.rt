@@ -1,6 +1,7 @@
-// The faults of the calls of this crate, by what they bring and the lengths lent. Each function gives the fault's number, and 0 where there is none.
+// The faults of the calls of this crate, by what they bring and the lengths lent. Each function gives the fault's number, and 0 where there
+// is none.
 ghost use mathlib.Core.Path.{_≡_};
-ghost use Rattle.weights.specs.Entry.{coefficientsFault, newWeightsFault, oddSetFault, tablesFault};
+ghost use Rattle.weights.specs.Entry.{coefficientsFault, newWeightsFault, oddSetFault, listsFault};
 use circuit::faults::lent_fault;
 use circuit::faults::or_else;
 use circuit::limits::MAX_WIRES;
@@ -19,11 +20,11 @@ pub fn odd_set_fault(n: usize, weights: &[Weight], marks: usize) -> u8
     weights_call_fault(n, lent_fault(marks, TABLE_BYTES), weights)
 }
 
-// The fault of a call of `coefficients`, by the weights and the lengths of the tables lent.
+// The fault of a call of `coefficients`, by the weights and the lengths of the lists lent.
 pub fn coefficients_fault(n: usize, weights: &[Weight], l: usize, q: usize, c: usize) -> u8
     ensures { λ r. ⌜ r ≡ coefficientsFault n (now (weights .entry)) l q c ⌝ }
 {
-    weights_call_fault(n, tables_fault(l, q, c), weights)
+    weights_call_fault(n, lists_fault(l, q, c), weights)
 }
 
 // The fault of a call of `new_weights`, by the weights, the marks and the length of the output lent.
@@ -36,9 +37,9 @@ pub fn new_weights_fault(n: usize, weights: &[Weight], marks: &[Mark], out: usiz
     )
 }
 
-// Fault 8 of the tables lent for the coefficients, by their lengths.
-fn tables_fault(l: usize, q: usize, c: usize) -> u8
-    ensures { λ r. ⌜ r ≡ tablesFault l q c ⌝ }
+// Fault 8 of the lists lent for the coefficients, by their lengths.
+fn lists_fault(l: usize, q: usize, c: usize) -> u8
+    ensures { λ r. ⌜ r ≡ listsFault l q c ⌝ }
 {
     let more = or_else(lent_fault(q, PAIR_BYTES), lent_fault(c, TRIPLE_BYTES));
     or_else(lent_fault(l, MAX_WIRES), more)

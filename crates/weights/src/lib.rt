@@ -6,26 +6,25 @@ ghost use Rattle.circuit.specs.OddSet.{oddSet};
 ghost use Rattle.weights.specs.Entry.{OddSetOf, CoefficientsOf, NewWeightsOf};
 
 pub mod faults;
+pub mod lists;
 pub mod rests;
 pub mod sums;
-pub mod tables;
 
 use circuit::Reply;
-use circuit::faults::lent_fault;
-use circuit::limits::TABLE_BYTES;
-use faults::call_fault;
+use circuit::limits::Coefficient;
+use circuit::limits::Mark;
+use circuit::limits::Weight;
 use faults::coefficients_fault;
 use faults::new_weights_fault;
-use faults::weights_fault;
+use faults::odd_set_fault;
+use lists::put_lists;
 use rests::put_new_weights;
-use tables::put_tables;
 
 // The odd set of weights. A refusal leaves the marks as they were.
-pub fn odd_set(n: usize, weights: &[u8], marks: &mut [u8]) -> Reply
+pub fn odd_set(n: usize, weights: &[Weight], marks: &mut [Mark]) -> Reply
     ensures { λ r. ⌜ OddSetOf n (now (weights .entry)) (now (marks .entry)) (now (marks .exit)) r ⌝ }
 {
-    let lent = lent_fault(marks.len(), TABLE_BYTES);
-    let fault = call_fault(n, lent, weights_fault(n, weights));
+    let fault = odd_set_fault(n, weights, marks.len());
     if fault != 0 {
         return Reply::Refused {
             number: fault,
@@ -37,9 +36,16 @@ pub fn odd_set(n: usize, weights: &[u8], marks: &mut [u8]) -> Reply
 }
 
 // The coefficients of weights: l(i) at i, q(i, j) at 8 j + i, c(i, j, k) at 64 k + 8 j + i, for wires i < j < k below n, and 0 elsewhere.
-// A refusal leaves the three tables as they were.
-pub fn coefficients(n: usize, weights: &[u8], l: &mut [u8], q: &mut [u8], c: &mut [u8]) -> Reply
-    ensures { λ r. ⌜ CoefficientsOf n (now (weights .entry)) (now (l .entry)) (now (q .entry)) (now (c .entry)) (now (l .exit)) (now (q .exit)) (now (c .exit)) r ⌝ }
+// A refusal leaves the three lists as they were.
+pub fn coefficients(
+    n: usize,
+    weights: &[Weight],
+    l: &mut [Coefficient],
+    q: &mut [Coefficient],
+    c: &mut [Coefficient],
+) -> Reply
+    ensures { λ r. ⌜ CoefficientsOf n (now (weights .entry)) (now (l .entry)) (now (q .entry)) (now (c .entry))
+        (now (l .exit)) (now (q .exit)) (now (c .exit)) r ⌝ }
 {
     let fault = coefficients_fault(n, weights, l.len(), q.len(), c.len());
     if fault != 0 {
@@ -48,12 +54,12 @@ pub fn coefficients(n: usize, weights: &[u8], l: &mut [u8], q: &mut [u8], c: &mu
             place: 0,
         };
     }
-    put_tables(n, weights, l, q, c);
+    put_lists(n, weights, l, q, c);
     Reply::Done
 }
 
 // The new weights for a circuit's weights and an odd set. A refusal leaves the output as it was.
-pub fn new_weights(n: usize, weights: &[u8], marks: &[u8], out: &mut [u8]) -> Reply
+pub fn new_weights(n: usize, weights: &[Weight], marks: &[Mark], out: &mut [Weight]) -> Reply
     ensures { λ r. ⌜ NewWeightsOf n (now (weights .entry)) (now (marks .entry)) (now (out .entry)) (now (out .exit)) r ⌝ }
 {
     let fault = new_weights_fault(n, weights, marks, out.len());
@@ -68,7 +74,7 @@ pub fn new_weights(n: usize, weights: &[u8], marks: &[u8], out: &mut [u8]) -> Re
 }
 
 // Internal: the caller lends as many marks as weights. It is public for the trim, which has proved its weights sound.
-pub fn put_odd_set(weights: &[u8], marks: &mut [u8])
+pub fn put_odd_set(weights: &[Weight], marks: &mut [Mark])
     requires { ⌜ length (now weights) ≡ length (now marks) ⌝ }
     ensures { λ _. ⌜ now (marks .exit) ≡ oddSet (now (weights .entry)) ⌝ }
 {

@@ -1,5 +1,5 @@
-// The new weights (document 01, "The new weights"): the rests of wires and of pairs, then each parity's weight by them. The rests are found by l and q of
-// the weights less the marks: modulo 8 and 4 these are l and q of the one less those of the other.
+// The new weights (document 01, "The new weights"): the rests of wires and of pairs, then each parity's weight by them. The rests are found
+// by l and q of the weights less the marks: modulo 8 and 4 these are l and q of the one less those of the other.
 ghost use mathlib.Core.Path.{_≡_};
 ghost use Prim.Native.Nat.{_+_, _*_, _<_, _≤_, _-_, _^_};
 ghost use lib.ListN.{length};
@@ -8,28 +8,35 @@ ghost use Rattle.gf2.specs.Sum.{sum};
 ghost use Rattle.circuit.specs.Limits.{maxWires, pairBytes, parities, tableBytes};
 ghost use Rattle.circuit.specs.Sound.{SoundMarks, SoundWeights};
 ghost use Rattle.phase.specs.NewWeights.{apart, newWeights};
-ghost use Rattle.weights.specs.Rests.{difference, mostRest, newIn, oneIn, oneRests, pairIn, restIn, weightIn, weightsIn};
-use crate::tables::l_entry;
-use crate::tables::put_q;
+ghost use Rattle.weights.specs.Rests.{DifferenceFits, RestsFit, TablesFit, difference, mostRest, newIn, oneIn, oneRests, pairIn};
+ghost use Rattle.weights.specs.Rests.{restIn, weightIn, weightsIn};
+use crate::lists::Degree;
+use crate::lists::l_entry;
+use crate::lists::put_list;
+use circuit::limits::Coefficient;
 use circuit::limits::MAX_WIRES;
+use circuit::limits::Mark;
 use circuit::limits::PAIR_BYTES;
 use circuit::limits::PARITIES;
 use circuit::limits::Parity;
 use circuit::limits::TABLE_BYTES;
+use circuit::limits::Weight;
 use circuit::parity::lowest;
+use circuit::parity::unit;
+use circuit::parity::wires_of;
 
 // Internal: the caller has found no fault. From 2^n up the difference is 0, so that the sums go over the parities of n wires alone.
-pub fn put_new_weights(n: usize, w: &[u8], u: &[u8], out: &mut [u8])
+pub fn put_new_weights(n: usize, w: &[Weight], u: &[Mark], out: &mut [Weight])
     requires { ⌜ (n ≤ maxWires) × SoundWeights parities n (now w) × SoundMarks parities n (now u) × (length (now out) ≡ tableBytes) ⌝ }
     ensures { λ _. ⌜ now (out .exit) ≡ newWeights parities n (now (w .entry)) (now (u .entry)) ⌝ }
 {
-    let mut d = [0u8; TABLE_BYTES];
+    let mut d = [0; TABLE_BYTES];
     put_difference(w, u, &mut d);
     put_by_difference(n, &d[..1 << n], u, out);
 }
 
 // The weights less the marks, modulo 8.
-fn put_difference(w: &[u8], u: &[u8], out: &mut [u8])
+fn put_difference(w: &[Weight], u: &[Mark], out: &mut [Weight])
     requires { ⌜ (length (now w) ≡ length (now out)) × (length (now u) ≡ length (now out)) × Below 8 (now w) × Below 2 (now u) ⌝ }
     ensures { λ _. ⌜ now (out .exit) ≡ difference (now (w .entry)) (now (u .entry)) ⌝ }
 {
@@ -40,19 +47,19 @@ fn put_difference(w: &[u8], u: &[u8], out: &mut [u8])
     }
 }
 
-fn put_by_difference(n: usize, d: &[u8], u: &[u8], out: &mut [u8])
-    requires { ⌜ (n ≤ maxWires) × (length (now d) ≤ parities) × (length (now u) ≡ tableBytes) × (length (now out) ≡ tableBytes) ⌝ }
+fn put_by_difference(n: usize, d: &[Weight], u: &[Mark], out: &mut [Weight])
+    requires { ⌜ DifferenceFits n (now d) × TablesFit (now u) (now out) ⌝ }
     ensures { λ _. ⌜ now (out .exit) ≡ newIn parities maxWires n (now (d .entry)) (now (u .entry)) ⌝ }
 {
-    let mut q = [0u8; PAIR_BYTES];
-    put_q(n, d, &mut q);
-    let mut one = [0u8; MAX_WIRES];
+    let mut q = [0; PAIR_BYTES];
+    put_list(n, d, Degree::Two, &mut q);
+    let mut one = [0; MAX_WIRES];
     put_one_rests(n, d, &q, &mut one);
     put_weights(n, &one, &q, u, out);
 }
 
-fn put_one_rests(n: usize, d: &[u8], q: &[u8], out: &mut [u8])
-    requires { ⌜ (n ≤ maxWires) × (length (now d) ≤ parities) × (length (now q) ≡ pairBytes) × (length (now out) ≡ maxWires) ⌝ }
+fn put_one_rests(n: usize, d: &[Weight], q: &[Coefficient], out: &mut [Weight])
+    requires { ⌜ DifferenceFits n (now d) × RestsFit (now out) (now q) ⌝ }
     ensures { λ _. ⌜ now (out .exit) ≡ oneRests maxWires n (now (d .entry)) (now (q .entry)) ⌝ }
 {
     for i in 0..MAX_WIRES {
@@ -61,16 +68,16 @@ fn put_one_rests(n: usize, d: &[u8], q: &[u8], out: &mut [u8])
 }
 
 // What is left of l when the rests of the pairs with i are taken away.
-fn one_rest(n: usize, d: &[u8], q: &[u8], i: usize) -> u8
-    requires { ⌜ (n ≤ maxWires) × (length (now d) ≤ parities) × (length (now q) ≡ pairBytes) × (i < maxWires) ⌝ }
+fn one_rest(n: usize, d: &[Weight], q: &[Coefficient], i: usize) -> Weight
+    requires { ⌜ DifferenceFits n (now d) × (length (now q) ≡ pairBytes) × (i < maxWires) ⌝ }
     ensures { λ r. ⌜ r ≡ oneIn maxWires n (now (d .entry)) (now (q .entry)) i ⌝ }
 {
     let s = pairs_with(n, q, i);
-    ((l_entry(n, d, i) as u32 + 7 * s) % 8) as u8
+    ((l_entry(n, d, i) as u32 + 7 * s) % 8) as Weight
 }
 
 // The rests of the pairs with wire i, summed.
-fn pairs_with(n: usize, q: &[u8], i: usize) -> u32
+fn pairs_with(n: usize, q: &[Coefficient], i: usize) -> u32
     requires { ⌜ (n ≤ maxWires) × (length (now q) ≡ pairBytes) × (i < maxWires) ⌝ }
     ensures { λ r. ⌜ (r ≡ sum n (λ j. apart i j * pairIn maxWires (now (q .entry)) i j)) × (r ≤ mostRest * n) ⌝ }
 {
@@ -82,7 +89,7 @@ fn pairs_with(n: usize, q: &[u8], i: usize) -> u32
 }
 
 // The rest of wires i and j, and nothing where they are one wire.
-fn pair_with(q: &[u8], i: usize, j: usize) -> u32
+fn pair_with(q: &[Coefficient], i: usize, j: usize) -> u32
     requires { ⌜ (length (now q) ≡ pairBytes) × (i < maxWires) × (j < maxWires) ⌝ }
     ensures { λ r. ⌜ (r ≡ apart i j * pairIn maxWires (now (q .entry)) i j) × (r ≤ mostRest) ⌝ }
 {
@@ -96,7 +103,7 @@ fn pair_with(q: &[u8], i: usize, j: usize) -> u32
 }
 
 // By q of the difference: 6 where q of weights and marks differs by 2, 0 where it is the same.
-fn pair_rest(x: u8) -> u32
+fn pair_rest(x: Coefficient) -> u32
     ensures { λ r. ⌜ (r ≡ 3 * x) × (r ≤ mostRest) ⌝ }
 {
     3 * wide(x)
@@ -108,8 +115,8 @@ fn wide(x: u8) -> u32
     x as u32
 }
 
-fn put_weights(n: usize, one: &[u8], q: &[u8], u: &[u8], out: &mut [u8])
-    requires { ⌜ (n ≤ maxWires) × (length (now one) ≡ maxWires) × (length (now q) ≡ pairBytes) × (length (now u) ≡ tableBytes) × (length (now out) ≡ tableBytes) ⌝ }
+fn put_weights(n: usize, one: &[Weight], q: &[Coefficient], u: &[Mark], out: &mut [Weight])
+    requires { ⌜ (n ≤ maxWires) × RestsFit (now one) (now q) × TablesFit (now u) (now out) ⌝ }
     ensures { λ _. ⌜ now (out .exit) ≡ weightsIn parities maxWires n (now (one .entry)) (now (q .entry)) (now (u .entry)) ⌝ }
 {
     for p in 0..PARITIES {
@@ -118,28 +125,29 @@ fn put_weights(n: usize, one: &[u8], q: &[u8], u: &[u8], out: &mut [u8])
 }
 
 // A member's 1, with the rest added; 0 from 2^n up.
-fn new_weight(n: usize, one: &[u8], q: &[u8], mark: u8, p: usize) -> u8
-    requires { ⌜ (n ≤ maxWires) × (length (now one) ≡ maxWires) × (length (now q) ≡ pairBytes) × (p < parities) ⌝ }
+fn new_weight(n: usize, one: &[Weight], q: &[Coefficient], mark: Mark, p: usize) -> Weight
+    requires { ⌜ (n ≤ maxWires) × RestsFit (now one) (now q) × (p < parities) ⌝ }
     ensures { λ r. ⌜ r ≡ weightIn maxWires n (now (one .entry)) (now (q .entry)) mark p ⌝ }
 {
     if p >= 1 << n {
         return 0;
     }
     let rest = rest_in(one, q, p as Parity);
-    ((mark as u32 + rest) % 8) as u8
+    ((mark as u32 + rest) % 8) as Weight
 }
 
 // The rest on p: one wire, two, or more.
-fn rest_in(one: &[u8], q: &[u8], p: Parity) -> u32
-    requires { ⌜ (length (now one) ≡ maxWires) × (length (now q) ≡ pairBytes) ⌝ }
+fn rest_in(one: &[Weight], q: &[Coefficient], p: Parity) -> u32
+    requires { ⌜ RestsFit (now one) (now q) × (p < parities) ⌝ }
     ensures { λ r. ⌜ (r ≡ restIn maxWires (now (one .entry)) (now (q .entry)) p) × (r ≤ mostRest) ⌝ }
 {
-    let o = u8::count_ones(p);
-    let i = lowest(p);
-    if o == 1 {
+    let wires = wires_of(p);
+    if wires == 1 {
+        let i = lowest(p);
         return wide(one[i]);
     }
-    if o == 2 {
+    if wires == 2 {
+        let i = lowest(p);
         let j = lowest(without(p, i));
         return pair_rest(q[MAX_WIRES * j + i]);
     }
@@ -150,5 +158,5 @@ fn without(p: Parity, i: usize) -> Parity
     requires { ⌜ (i < maxWires) × (2 ^ i ≤ p) ⌝ }
     ensures { λ r. ⌜ r ≡ p - 2 ^ i ⌝ }
 {
-    p - (1 << i)
+    p - unit(i)
 }

@@ -1,43 +1,37 @@
--- Each way out of `coefficients` by its law.
+-- A refusal leaves the lists as they were; where there is none, they are as long as they must be, and are written.
+use mathlib.Core.Path.{refl}
 use borrow.Author.Needs.{needs}
-use Rattle.weights.proofs.Ways.{tables-done, tables-fit, tables-refused}
+use Rattle.circuit.proofs.TableRule.{call-done, call-refusal}
+use Rattle.weights.proofs.Ways.{lists-fit}
 use Rattle.weights.proofs.coefficients.Statement.{statement}
 use Rattle.weights.proofs.coefficients.Tie as tie
 
-coefficients-fault-requires : tie.Need-coefficients-fault-requires
-coefficients-fault-requires c κs = search needs
-
 returns : tie.Need-returns
-returns c = tables-refused _ _ _ _ _ _ (search) (search)
-
-put-tables-requires : tie.Need-put-tables-requires
-put-tables-requires c κs =
-    let s : tie.Start = search in
+returns c =
     let f : tie.After-coefficients-fault = search in
-    tables-fit (s .args .n) _ _ _ _ _ (f .coefficients-fault .ensures) (search)
+    record { reply = call-refusal _ _ (f .coefficients-fault .ensures) (search); l-left = refl; q-left = refl; c-left = refl }
 
-same-length : tie.Need-same-length
-same-length c = search needs
-
-same-length-2 : tie.Need-same-length-2
-same-length-2 c = search needs
-
-same-length-3 : tie.Need-same-length-3
-same-length-3 c = search needs
+put-lists-requires : tie.Need-put-lists-requires
+put-lists-requires c κs =
+    let f : tie.After-coefficients-fault = search in
+    let s : tie.Start = search in
+    lists-fit (s .args .n) _ _ _ _ _ (f .coefficients-fault .ensures) (search)
 
 returns-2 : tie.Need-returns-2
 returns-2 c =
+    let put : tie.After-put-lists = search in
     let f : tie.After-coefficients-fault = search in
-    tables-done _ _ _ _ _ _ (f .coefficients-fault .ensures) (search) _ _ _ (search)
+    let are = put .put-lists .ensures in
+    record { reply = call-done _ _ (f .coefficients-fault .ensures) (search); l-left = are .l-is; q-left = are .q-is; c-left = are .c-is }
 
 pub coefficients-spec : {M : Type 1} → statement M
 coefficients-spec =
     tie.close
     (tie.spec
-    coefficients-fault-requires
+    (λ c κs. search needs)
     returns
-    put-tables-requires
-    same-length
-    same-length-2
-    same-length-3
+    put-lists-requires
+    (λ c. search needs)
+    (λ c. search needs)
+    (λ c. search needs)
     returns-2)

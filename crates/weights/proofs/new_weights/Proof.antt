@@ -1,29 +1,28 @@
--- Each way out of `new_weights` by its law.
+-- A refusal leaves the output as it was; where there is none, all that the writer takes is sound.
+use mathlib.Core.Path.{refl}
 use borrow.Author.Needs.{needs}
 use denote.Ref.{now}
-use Rattle.weights.proofs.Ways.{new-done, new-fits, new-refused}
+use Rattle.circuit.proofs.TableRule.{call-done, call-refusal}
+use Rattle.weights.proofs.Ways.{new-fits}
 use Rattle.weights.proofs.new_weights.Statement.{statement}
 use Rattle.weights.proofs.new_weights.Tie as tie
 
-new-weights-fault-requires : tie.Need-new-weights-fault-requires
-new-weights-fault-requires c κs = search needs
-
 returns : tie.Need-returns
-returns c = new-refused _ _ _ _ _ (search) (search)
+returns c =
+    let f : tie.After-new-weights-fault = search in
+    record { reply = call-refusal _ _ (f .new-weights-fault .ensures) (search); out-left = refl }
 
 put-new-weights-requires : tie.Need-put-new-weights-requires
 put-new-weights-requires c κs =
-    let s : tie.Start = search in
     let f : tie.After-new-weights-fault = search in
-    new-fits _ _ _ (now (s .args .out)) _ (f .new-weights-fault .ensures) (search)
-
-same-length : tie.Need-same-length
-same-length c = search needs
+    let s : tie.Start = search in
+    new-fits (s .args .n) _ _ (now (s .args .out)) _ (f .new-weights-fault .ensures) (search)
 
 returns-2 : tie.Need-returns-2
 returns-2 c =
+    let put : tie.After-put-new-weights = search in
     let f : tie.After-new-weights-fault = search in
-    new-done _ _ _ _ _ (f .new-weights-fault .ensures) (search) _ (search)
+    record { reply = call-done _ _ (f .new-weights-fault .ensures) (search); out-left = put .put-new-weights .ensures }
 
 pub new-weights-spec : {M : Type 1} → statement M
-new-weights-spec = tie.close (tie.spec new-weights-fault-requires returns put-new-weights-requires same-length returns-2)
+new-weights-spec = tie.close (tie.spec (λ c κs. search needs) returns put-new-weights-requires (λ c. search needs) returns-2)

@@ -18,38 +18,28 @@ abbrev μ-loop : tie.MeasureT-loop
 μ-loop weights marks₀ p₀ marks p = length weights - p
 
 loop-holds : tie.Need-loop-holds Inv-loop μ-loop
-loop-holds c = (search needs, search needs, filled-none (now (c .args .marks)) (oddSet (now (c .args .weights))))
-
-shared-slice-read-marks : tie.Need-shared-slice-read-marks Inv-loop μ-loop
-shared-slice-read-marks c = search needs
-
-slice-write-marks : tie.Need-slice-write-marks Inv-loop μ-loop
-slice-write-marks c = search needs
-
-add-p : tie.Need-add-p Inv-loop μ-loop
-add-p c = search needs
-
-loop-less : tie.Need-loop-less Inv-loop μ-loop
-loop-less c = search needs
+loop-holds c =
+    let s : tie.Start Inv-loop μ-loop = search in
+    (search needs, search needs, filled-none (now (s .args .marks)) (oddSet (now (s .args .weights))))
 
 loop-again : tie.Need-loop-again Inv-loop μ-loop
 loop-again c =
-    let at = c .before .before in
-    let w = now (at .before .args .weights) in
+    let at : tie.At-loop Inv-loop μ-loop = search in
+    let s : tie.Start Inv-loop μ-loop = search in
+    let w = now (s .args .weights) in
     let p = at .loop .p in (
       search needs,
       simp length-set (omega arith),
       filled-next (at .loop .marks) (oddSet w) p (getD w p 0 % 2) (omega arith) (at .loop .inv .2) (sym (odd-mark w p)),
     )
 
-same-length : tie.Need-same-length Inv-loop μ-loop
-same-length c = search needs
-
 returns : tie.Need-returns Inv-loop μ-loop
 returns c =
-    let at = c .before in
-    let w = now (at .before .args .weights) in
-    filled-all (at .loop .marks) (oddSet w) (at .loop .p) (omega (arith, length-odd w)) (omega (arith, length-odd w)) (at .loop .inv .2)
+    let at : tie.At-loop Inv-loop μ-loop = search in
+    let s : tie.Start Inv-loop μ-loop = search in
+    let w = now (s .args .weights) in
+    let e = length-odd w in
+    filled-all (at .loop .marks) (oddSet w) (at .loop .p) (omega (arith, e)) (omega (arith, e)) (at .loop .inv .2)
 
 pub put-odd-set-spec : {M : Type 1} → statement M
 put-odd-set-spec =
@@ -58,10 +48,10 @@ put-odd-set-spec =
     Inv-loop
     μ-loop
     loop-holds
-    shared-slice-read-marks
-    slice-write-marks
-    add-p
-    loop-less
+    (λ c. search needs)
+    (λ c. search needs)
+    (λ c. search needs)
+    (λ c. search needs)
     loop-again
-    same-length
+    (λ c. search needs)
     returns)

@@ -1,19 +1,19 @@
--- The three judges' contracts together.
+-- The lists' fault, as part of the call's.
+use mathlib.Core.Path.{ap, _∙_}
+use Prim.Native.Nat.{ℕ}
 use borrow.Author.Needs.{needs}
+use denote.Ref.{now}
+use Rattle.circuit.specs.TableFaults.{callFault, weightsFault}
 use Rattle.weights.proofs.faults.coefficients_fault.Statement.{statement}
 use Rattle.weights.proofs.faults.coefficients_fault.Tie as tie
 
-tables-fault-requires : tie.Need-tables-fault-requires
-tables-fault-requires c κs = search needs
-
-weights-fault-requires : tie.Need-weights-fault-requires
-weights-fault-requires c κs = search needs
-
-call-fault-requires : tie.Need-call-fault-requires
-call-fault-requires c κs = search needs
-
 returns : tie.Need-returns
-returns c = cc
+returns c =
+    let call : tie.After-weights-call-fault = search in
+    let lent : tie.After-lists-fault = search in
+    let s : tie.Start = search in
+    call .weights-call-fault .ensures
+    ∙ ap (λ (f : ℕ). callFault (s .args .n) f (weightsFault (s .args .n) (now (s .args .weights)))) (lent .lists-fault .ensures)
 
 pub coefficients-fault-spec : {M : Type 1} → statement M
-coefficients-fault-spec = tie.close (tie.spec tables-fault-requires weights-fault-requires call-fault-requires returns)
+coefficients-fault-spec = tie.close (tie.spec (λ c κs. search needs) (λ c κs. search needs) returns)

@@ -8,32 +8,27 @@ use Rattle.weights.proofs.RestSteps.{weight-above, weight-below}
 use Rattle.weights.proofs.rests.new_weight.Statement.{statement}
 use Rattle.weights.proofs.rests.new_weight.Tie as tie
 
-shl-if1 : tie.Need-shl-if1
-shl-if1 c = search needs
-
 returns : tie.Need-returns
 returns c =
-    let start : tie.Start = search in
-    let a = start .args in weight-above maxWires (a .n) (now (a .one)) (now (a .q)) (a .mark) (a .p) (omega (arith, shifted 64 (a .n) (omega arith)))
-
-cast-rest-in : tie.Need-cast-rest-in
-cast-rest-in c = search needs
-
-rest-in-requires : tie.Need-rest-in-requires
-rest-in-requires c κs = search needs
-
-add-result : tie.Need-add-result
-add-result c = search needs
-
-cast-result : tie.Need-cast-result
-cast-result c = search needs
+    let s : tie.Start = search in
+    weight-above maxWires (s .args .n) (now (s .args .one)) (now (s .args .q)) (s .args .mark) (s .args .p)
+    (omega (arith, shifted 64 (s .args .n) (omega arith)))
 
 returns-2 : tie.Need-returns-2
 returns-2 c =
-    let start : tie.Start = search in
-    let a = start .args in
-    weight-below maxWires (a .n) (now (a .one)) (now (a .q)) (a .mark) (a .p) (c .rest-in .result) (omega (arith, shifted 64 (a .n) (omega arith)))
-    (c .rest-in .ensures .0)
+    let r : tie.After-rest-in = search in
+    let s : tie.Start = search in
+    weight-below maxWires (s .args .n) (now (s .args .one)) (now (s .args .q)) (s .args .mark) (s .args .p) _
+    (omega (arith, shifted 64 (s .args .n) (omega arith))) (r .rest-in .ensures .0)
 
 pub new-weight-spec : {M : Type 1} → statement M
-new-weight-spec = tie.close (tie.spec shl-if1 returns cast-rest-in rest-in-requires add-result cast-result returns-2)
+new-weight-spec =
+    tie.close
+    (tie.spec
+    (λ c. search needs)
+    returns
+    (λ c. search needs)
+    (λ c κs. search needs)
+    (λ c. search needs)
+    (λ c. search needs)
+    returns-2)

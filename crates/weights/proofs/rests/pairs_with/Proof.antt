@@ -21,29 +21,21 @@ loop-holds : tie.Need-loop-holds Inv-loop μ-loop
 unfolding sum
 loop-holds c = (omega arith, refl, omega arith)
 
-pair-with-requires : tie.Need-pair-with-requires Inv-loop μ-loop
-pair-with-requires c κs = search needs
-
-add-s : tie.Need-add-s Inv-loop μ-loop
-add-s c = search needs
-
-add-j : tie.Need-add-j Inv-loop μ-loop
-add-j c = search needs
-
-loop-less : tie.Need-loop-less Inv-loop μ-loop
-loop-less c = search needs
-
 loop-again : tie.Need-loop-again Inv-loop μ-loop
 loop-again c =
-    let at = c .before .before in
-    let a = at .before .before .args in
-    (search needs, others-next (now (a .q)) maxWires (a .i) (at .loop .j) (at .loop .s) (c .pair-with .result) (at .loop .inv .1) (c .pair-with .ensures .0), search needs)
+    let r : tie.After-pair-with Inv-loop μ-loop = search in
+    let at : tie.At-loop Inv-loop μ-loop = search in
+    let s : tie.Start Inv-loop μ-loop = search in (
+      search needs,
+      others-next (now (s .args .q)) maxWires (s .args .i) (at .loop .j) _ _ (at .loop .inv .1) (r .pair-with .ensures .0),
+      search needs,
+    )
 
 returns : tie.Need-returns Inv-loop μ-loop
 returns c =
-    let at = c .before in
-    let a = at .before .before .args in
-    let e : at .loop .j ≡ a .n = omega arith in
+    let at : tie.At-loop Inv-loop μ-loop = search in
+    let s : tie.Start Inv-loop μ-loop = search in
+    let e : at .loop .j ≡ s .args .n = omega arith in
     (rw e at (at .loop .inv .1), search needs)
 
 pub pairs-with-spec : {M : Type 1} → statement M
@@ -53,9 +45,9 @@ pairs-with-spec =
     Inv-loop
     μ-loop
     loop-holds
-    pair-with-requires
-    add-s
-    add-j
-    loop-less
+    (λ c κs. search needs)
+    (λ c. search needs)
+    (λ c. search needs)
+    (λ c. search needs)
     loop-again
     returns)

@@ -1,6 +1,7 @@
--- The table is filled from the front.
+-- The list is filled from the front.
+use mathlib.Core.List.{List}
 use mathlib.Core.Path.{_∙_, _≡_}
-use Prim.Native.Nat.{_-_, _≤_}
+use Prim.Native.Nat.{_-_, ℕ, _≤_}
 use native.Mathlib.Omega.{arith}
 use lib.ListN.{length, length-set}
 use borrow.Author.Needs.{needs}
@@ -18,45 +19,45 @@ Inv-loop n d q out₀ i₀ out i = (i ≤ maxWires) × (length out ≡ maxWires)
 abbrev μ-loop : tie.MeasureT-loop
 μ-loop n d q out₀ i₀ out i = maxWires - i
 
+-- what is to be written
+abbrev written : tie.Start Inv-loop μ-loop → List ℕ
+written s = oneRests maxWires (s .args .n) (now (s .args .d)) (now (s .args .q))
+
 loop-holds : tie.Need-loop-holds Inv-loop μ-loop
 loop-holds c =
-    let start : tie.Start Inv-loop μ-loop = search in
-    let a = start .args in (search needs, search needs, filled-none (now (a .out)) (oneRests maxWires (a .n) (now (a .d)) (now (a .q))))
-
-one-rest-requires : tie.Need-one-rest-requires Inv-loop μ-loop
-one-rest-requires c κs = search needs
-
-slice-write-out : tie.Need-slice-write-out Inv-loop μ-loop
-slice-write-out c = search needs
-
-add-i : tie.Need-add-i Inv-loop μ-loop
-add-i c = search needs
-
-loop-less : tie.Need-loop-less Inv-loop μ-loop
-loop-less c = search needs
+    let s : tie.Start Inv-loop μ-loop = search in
+    (search needs, search needs, filled-none (now (s .args .out)) (written s))
 
 loop-again : tie.Need-loop-again Inv-loop μ-loop
 loop-again c =
-    let start : tie.Start Inv-loop μ-loop = search in
-    let at = c .before .before in
-    let a = start .args in
+    let r : tie.After-one-rest Inv-loop μ-loop = search in
+    let at : tie.At-loop Inv-loop μ-loop = search in
+    let s : tie.Start Inv-loop μ-loop = search in
     let i = at .loop .i in (
       search needs,
       simp length-set (omega arith),
-      filled-next (at .loop .out) (oneRests maxWires (a .n) (now (a .d)) (now (a .q))) i (c .one-rest .result) (omega arith) (at .loop .inv .2)
-          (c .one-rest .ensures ∙ one-at maxWires (a .n) (now (a .d)) (now (a .q)) i (omega arith)),
+      filled-next (at .loop .out) (written s) i _ (omega arith) (at .loop .inv .2)
+          (r .one-rest .ensures ∙ one-at maxWires (s .args .n) (now (s .args .d)) (now (s .args .q)) i (omega arith)),
     )
-
-same-length : tie.Need-same-length Inv-loop μ-loop
-same-length c = search needs
 
 returns : tie.Need-returns Inv-loop μ-loop
 returns c =
-    let start : tie.Start Inv-loop μ-loop = search in
-    let at = c .before in
-    let a = start .args in
-    let e = length-one maxWires (a .n) (now (a .d)) (now (a .q)) in
-    filled-all (at .loop .out) (oneRests maxWires (a .n) (now (a .d)) (now (a .q))) (at .loop .i) (omega (arith, e)) (omega (arith, e)) (at .loop .inv .2)
+    let at : tie.At-loop Inv-loop μ-loop = search in
+    let s : tie.Start Inv-loop μ-loop = search in
+    let e = length-one maxWires (s .args .n) (now (s .args .d)) (now (s .args .q)) in
+    filled-all (at .loop .out) (written s) (at .loop .i) (omega (arith, e)) (omega (arith, e)) (at .loop .inv .2)
 
 pub put-one-rests-spec : {M : Type 1} → statement M
-put-one-rests-spec = tie.close (tie.spec Inv-loop μ-loop loop-holds one-rest-requires slice-write-out add-i loop-less loop-again same-length returns)
+put-one-rests-spec =
+    tie.close
+    (tie.spec
+    Inv-loop
+    μ-loop
+    loop-holds
+    (λ c κs. search needs)
+    (λ c. search needs)
+    (λ c. search needs)
+    (λ c. search needs)
+    loop-again
+    (λ c. search needs)
+    returns)

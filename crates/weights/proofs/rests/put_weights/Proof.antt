@@ -1,6 +1,7 @@
 -- The output is filled from the front.
+use mathlib.Core.List.{List}
 use mathlib.Core.Path.{_∙_, _≡_}
-use Prim.Native.Nat.{_-_, _≤_}
+use Prim.Native.Nat.{_-_, ℕ, _≤_}
 use native.Mathlib.Omega.{arith}
 use lib.ListN.{length, length-set}
 use borrow.Author.Needs.{needs}
@@ -18,50 +19,46 @@ Inv-loop n one q u out₀ p₀ out p = (p ≤ parities) × (length out ≡ table
 abbrev μ-loop : tie.MeasureT-loop
 μ-loop n one q u out₀ p₀ out p = parities - p
 
+-- what is to be written
+abbrev written : tie.Start Inv-loop μ-loop → List ℕ
+written s = weightsIn parities maxWires (s .args .n) (now (s .args .one)) (now (s .args .q)) (now (s .args .u))
+
 loop-holds : tie.Need-loop-holds Inv-loop μ-loop
 loop-holds c =
-    let start : tie.Start Inv-loop μ-loop = search in
-    let a = start .args in
-    (search needs, search needs, filled-none (now (a .out)) (weightsIn parities maxWires (a .n) (now (a .one)) (now (a .q)) (now (a .u))))
-
-shared-slice-read-new-weight : tie.Need-shared-slice-read-new-weight Inv-loop μ-loop
-shared-slice-read-new-weight c = search needs
-
-new-weight-requires : tie.Need-new-weight-requires Inv-loop μ-loop
-new-weight-requires c κs = search needs
-
-slice-write-out : tie.Need-slice-write-out Inv-loop μ-loop
-slice-write-out c = search needs
-
-add-p : tie.Need-add-p Inv-loop μ-loop
-add-p c = search needs
-
-loop-less : tie.Need-loop-less Inv-loop μ-loop
-loop-less c = search needs
+    let s : tie.Start Inv-loop μ-loop = search in
+    (search needs, search needs, filled-none (now (s .args .out)) (written s))
 
 loop-again : tie.Need-loop-again Inv-loop μ-loop
 loop-again c =
-    let at-loop : tie.At-loop Inv-loop μ-loop = search in
-    let start : tie.Start Inv-loop μ-loop = search in
-    let at = at-loop in
-    let a = start .args in
+    let r : tie.After-new-weight Inv-loop μ-loop = search in
+    let at : tie.At-loop Inv-loop μ-loop = search in
+    let s : tie.Start Inv-loop μ-loop = search in
     let p = at .loop .p in (
       search needs,
       simp length-set (omega arith),
-      filled-next (at .loop .out) (weightsIn parities maxWires (a .n) (now (a .one)) (now (a .q)) (now (a .u))) p (c .new-weight .result) (omega arith) (at .loop .inv .2)
-          (c .new-weight .ensures ∙ weights-at parities maxWires (a .n) (now (a .one)) (now (a .q)) (now (a .u)) p (omega arith)),
+      filled-next (at .loop .out) (written s) p _ (omega arith) (at .loop .inv .2)
+          (r .new-weight .ensures ∙ weights-at parities maxWires (s .args .n) _ _ (now (s .args .u)) p (omega arith)),
     )
-
-same-length : tie.Need-same-length Inv-loop μ-loop
-same-length c = search needs
 
 returns : tie.Need-returns Inv-loop μ-loop
 returns c =
-    let start : tie.Start Inv-loop μ-loop = search in
-    let at = c .before in
-    let a = start .args in
-    let e = length-weights parities maxWires (a .n) (now (a .one)) (now (a .q)) (now (a .u)) in
-    filled-all (at .loop .out) (weightsIn parities maxWires (a .n) (now (a .one)) (now (a .q)) (now (a .u))) (at .loop .p) (omega (arith, e)) (omega (arith, e)) (at .loop .inv .2)
+    let at : tie.At-loop Inv-loop μ-loop = search in
+    let s : tie.Start Inv-loop μ-loop = search in
+    let e = length-weights parities maxWires (s .args .n) (now (s .args .one)) (now (s .args .q)) (now (s .args .u)) in
+    filled-all (at .loop .out) (written s) (at .loop .p) (omega (arith, e)) (omega (arith, e)) (at .loop .inv .2)
 
 pub put-weights-spec : {M : Type 1} → statement M
-put-weights-spec = tie.close (tie.spec Inv-loop μ-loop loop-holds shared-slice-read-new-weight new-weight-requires slice-write-out add-p loop-less loop-again same-length returns)
+put-weights-spec =
+    tie.close
+    (tie.spec
+    Inv-loop
+    μ-loop
+    loop-holds
+    (λ c. search needs)
+    (λ c κs. search needs)
+    (λ c. search needs)
+    (λ c. search needs)
+    (λ c. search needs)
+    loop-again
+    (λ c. search needs)
+    returns)

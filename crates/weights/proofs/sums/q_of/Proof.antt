@@ -6,32 +6,26 @@ use borrow.Author.Needs.{needs}
 use denote.Ref.{now}
 use Rattle.weights.proofs.OneSum.{q-by-sum}
 use Rattle.weights.proofs.Signed.{quarter-minus, read, small-read, small-zero, sub-fits}
-use Rattle.weights.specs.Sums.{sumWith}
 use Rattle.weights.proofs.sums.q_of.Statement.{statement}
 use Rattle.weights.proofs.sums.q_of.Tie as tie
 
-sum-with-requires : tie.Need-sum-with-requires
-sum-with-requires c κs = search needs
-
 sub-quarters : tie.Need-sub-quarters
 sub-quarters c =
-    let a = c .before .before .args in
-    let e = c .sum-with .ensures in
-    let n = sumWith (now (a .w)) (a .i) (a .j) (a .j) in
-    let s = small-read (c .sum-with .result) n (e .0) (omega (arith, e .1)) in
-    let z = read (c .sum-with .result) in
-    search (sub-fits (pos 0) z small-zero s, sub-fits z (pos 0) s small-zero)
-
-quarters-requires : tie.Need-quarters-requires
-quarters-requires c κs = search needs
+    let t : tie.After-sum-with = search in
+    let small = small-read (t .sum-with .result) _ (t .sum-with .ensures .0) (omega arith) in
+    let z = read (t .sum-with .result) in
+    search (sub-fits (pos 0) z small-zero small, sub-fits z (pos 0) small small-zero)
 
 returns : tie.Need-returns
 returns c =
-    let start : tie.Start = search in
-    let a = start .args in
-    let s = c .before .sum-with in
-    let n = sumWith (now (a .w)) (a .i) (a .j) (a .j) in
-    (c .quarters .ensures .0 ∙ quarter-minus (s .result) n (s .ensures .0) (omega (arith, s .ensures .1)) ∙ q-by-sum (now (a .w)) (a .i) (a .j), c .quarters .ensures .1)
+    let r : tie.After-quarters = search in
+    let t : tie.After-sum-with = search in
+    let s : tie.Start = search in (
+      r .quarters .ensures .0
+          ∙ quarter-minus (t .sum-with .result) _ (t .sum-with .ensures .0) (omega arith)
+          ∙ q-by-sum (now (s .args .w)) (s .args .i) (s .args .j),
+      r .quarters .ensures .1,
+    )
 
 pub q-of-spec : {M : Type 1} → statement M
-q-of-spec = tie.close (tie.spec sum-with-requires sub-quarters quarters-requires returns)
+q-of-spec = tie.close (tie.spec (λ c κs. search needs) sub-quarters (λ c κs. search needs) returns)

@@ -1,13 +1,13 @@
 -- The sum over the parities passed so far.
-use mathlib.Core.Path.{ap, refl, _∙_, _≡_}
-use Prim.Native.Nat.{_*_, _+_, _-_, _<_, _^_, ℕ, _≤_}
+use mathlib.Core.Path.{refl, _≡_}
+use Prim.Native.Nat.{_*_, _-_, _≤_}
 use native.Mathlib.Omega.{arith}
-use lib.ListN.{getD, length}
+use lib.ListN.{length}
 use borrow.Author.Needs.{needs}
 use denote.Ref.{now}
 use Rattle.circuit.specs.Limits.{parities}
 use Rattle.gf2.specs.Sum.{sum}
-use Rattle.weights.proofs.SignedSum.{added-bits, added-fits, share-le, shareOf, so-far-all, so-far-next, soFar, sum-small}
+use Rattle.weights.proofs.SignedSum.{Turn, so-far-all, soFar, sum-small, turn-fits, turn-small, turn-sums}
 use Rattle.weights.proofs.sums.sum_with.Statement.{statement}
 use Rattle.weights.proofs.sums.sum_with.Tie as tie
 
@@ -21,52 +21,42 @@ loop-holds : tie.Need-loop-holds Inv-loop μ-loop
 unfolding sum
 loop-holds c = (omega arith, refl, omega arith)
 
-shared-slice-read-share : tie.Need-shared-slice-read-share Inv-loop μ-loop
-shared-slice-read-share c = search needs
+-- a turn, after its share is known
+abbrev Shared : Type 0
+Shared = tie.After-share Inv-loop μ-loop
 
-cast-share : tie.Need-cast-share Inv-loop μ-loop
-cast-share c = search needs
+abbrev head : Shared → tie.At-loop Inv-loop μ-loop
+head t = t .before .before .before
 
-share-requires : tie.Need-share-requires Inv-loop μ-loop
-share-requires c κs = search needs
+abbrev entry : Shared → tie.Start Inv-loop μ-loop
+entry t = head t .before .before
+
+turn : (t : Shared)
+    → let a = entry t .args in Turn (now (a .w)) (a .i) (a .j) (a .k) (head t .loop .p) (head t .loop .s) (t .share .result)
+turn t =
+    let known : tie.After-shared-slice-known2 Inv-loop μ-loop = search in
+    record {
+      sum-so-far = head t .loop .inv .1;
+      small = head t .loop .inv .2;
+      byte = omega (arith, known .shared-slice-known2 .given (head t .loop .p));
+      few = omega arith;
+      share = t .share .ensures;
+    }
 
 add-s : tie.Need-add-s Inv-loop μ-loop
-add-s c =
-    let at-loop : tie.At-loop Inv-loop μ-loop = search in
-    let at = at-loop in
-    let a = at .before .before .args in
-    let x = getD (now (a .w)) (at .loop .p) 0 in
-    let h : at .loop .s + shareOf x (at .loop .p) (a .i) (a .j) (a .k) < 2 ^ 31 = omega (arith, share-le x (at .loop .p) (a .i) (a .j) (a .k), c .before .shared-slice-known2 .given (at .loop .p)) in
-    added-fits (at .loop .s) (shareOf x (at .loop .p) (a .i) (a .j) (a .k)) (c .share .result) (c .share .ensures) h
-
-add-p : tie.Need-add-p Inv-loop μ-loop
-add-p c = search needs
-
-loop-less : tie.Need-loop-less Inv-loop μ-loop
-loop-less c = search needs
+add-s c = turn-fits (turn c)
 
 loop-again : tie.Need-loop-again Inv-loop μ-loop
-loop-again c =
-    let at-loop : tie.At-loop Inv-loop μ-loop = search in
-    let at = at-loop in
-    let a = at .before .before .args in
-    let x = getD (now (a .w)) (at .loop .p) 0 in
-    let le = share-le x (at .loop .p) (a .i) (a .j) (a .k) in
-    let byte = c .before .shared-slice-known2 .given (at .loop .p) in
-    let h : at .loop .s + shareOf x (at .loop .p) (a .i) (a .j) (a .k) < 2 ^ 31 = omega (arith, le, byte) in
-    let e = added-bits (at .loop .s) (shareOf x (at .loop .p) (a .i) (a .j) (a .k)) (c .share .result) (c .share .ensures) h in (
-      omega arith,
-      e ∙ ap (λ (t : ℕ). t + shareOf x (at .loop .p) (a .i) (a .j) (a .k)) (at .loop .inv .1) ∙ so-far-next (now (a .w)) (a .i) (a .j) (a .k) (at .loop .p),
-      omega (arith, e, le, byte),
-    )
+loop-again c = (search needs, turn-sums (turn c), turn-small (turn c))
 
 returns : tie.Need-returns Inv-loop μ-loop
 returns c =
-    let at = c .before in
-    let a = at .before .before .args in
-    let e : at .loop .p ≡ length (now (a .w)) = omega arith in (
-      so-far-all (now (a .w)) (a .i) (a .j) (a .k) (at .loop .p) (at .loop .s) e (at .loop .inv .1) (omega arith),
-      sum-small (now (a .w)) (a .i) (a .j) (a .k) (at .loop .p) (at .loop .s) (255 * parities) e (at .loop .inv .1) (omega arith),
+    let at : tie.At-loop Inv-loop μ-loop = search in
+    let s : tie.Start Inv-loop μ-loop = search in
+    let w = now (s .args .w) in
+    let e : at .loop .p ≡ length w = omega arith in (
+      so-far-all w _ _ _ (at .loop .p) _ e (at .loop .inv .1) (omega arith),
+      sum-small w _ _ _ (at .loop .p) (at .loop .s) (255 * parities) e (at .loop .inv .1) (omega arith),
     )
 
 pub sum-with-spec : {M : Type 1} → statement M
@@ -76,11 +66,11 @@ sum-with-spec =
     Inv-loop
     μ-loop
     loop-holds
-    shared-slice-read-share
-    cast-share
-    share-requires
+    (λ c. search needs)
+    (λ c. search needs)
+    (λ c κs. search needs)
     add-s
-    add-p
-    loop-less
+    (λ c. search needs)
+    (λ c. search needs)
     loop-again
     returns)
