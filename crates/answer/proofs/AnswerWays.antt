@@ -7,9 +7,10 @@ use native.Mathlib.Omega.{arith}
 use lib.ListN.{length, length-take, take}
 use borrow.Author.Tests.{le-ltb, lt-ltb}
 use Rattle.circuit.proofs.Bytes.{gates-in}
-use Rattle.circuit.proofs.Judging.{list-well, or-well, short-well, wires-well}
-use Rattle.circuit.specs.Faults.{firstFault, lentOutput, listFault, refuse, shortFault, wiresFault}
+use Rattle.circuit.proofs.Judging.{or-well, passes-list-call, short-well}
+use Rattle.circuit.specs.Faults.{firstFault, lentOutput, listCallFault, refuse}
 use Rattle.circuit.specs.Gate.{gatesOf}
+use Rattle.circuit.specs.Lent.{frontGates}
 use Rattle.circuit.specs.Limits.{gateBytes, logCells, maxListBytes, writeBytes}
 use Rattle.circuit.specs.declared.Reply.{Reply}
 use Rattle.circuit.specs.declared.Reply.the-variants as reply
@@ -21,7 +22,7 @@ use Rattle.text.specs.Text.{Sayable, Text, circuit, faulty, readText}
 use Rattle.text.specs.Written.{refusedLine}
 use Rattle.text.specs.declared.TextReply.{TextReply}
 use Rattle.text.specs.declared.TextReply.the-variants as read
-use Rattle.trimmer.specs.Entry.{Done-with, Outcome, TrimList, trimFault, verdict, writtenOf}
+use Rattle.trimmer.specs.Entry.{Done-with, Outcome, TrimList, trimLent, verdict}
 use Rattle.trimmer.specs.declared.Counts.{Counts}
 use Rattle.trimmer.specs.declared.TrimReply.{TrimReply}
 use Rattle.trimmer.specs.declared.TrimReply.the-variants as trim
@@ -32,22 +33,27 @@ use Rattle.answer.specs.declared.Answered.the-variants.{Done, Refused}
 
 -- ---- the trim of a circuit that a text says, with room lent for D and the log
 
-module _ (n : ℕ) (g list log : List ℕ) (said : Sayable n g) (room : writeBytes ≤ length list) (log-room : logCells ≤ length log) where
+-- such a circuit, and what is lent
+pub record Lent (n : ℕ) (g list log : List ℕ) : Type 0 where
+  pub said : Sayable n g
+  pub room : writeBytes ≤ length list
+  pub log-room : logCells ≤ length log
+
+module _ {n : ℕ} {g list log : List ℕ} (lent : Lent n g list log) where
   -- it is judged by its gates alone
-  no-fault : trimFault n (length g) (length list) (length log) ≡ 0
-  unfolding trimFault
+  no-fault : listCallFault n (length g) (trimLent (length list) (length log)) ≡ 0
   no-fault =
-      let outs = or-well (shortFault (length list) writeBytes) (shortFault (length log) logCells) (short-well (length list) writeBytes room) (short-well (length log) logCells log-room) in
-      or-well (wiresFault n) _ (wires-well n (said .some) (said .few)) (or-well (listFault (length g)) _ (list-well (length g) (said .whole) (said .short)) outs)
+      passes-list-call n (length g) _ (lent .said .some) (lent .said .few) (lent .said .whole) (lent .said .short)
+      (or-well _ _ (short-well (length list) writeBytes (lent .room)) (short-well (length log) logCells (lent .log-room)))
 
   judged : verdict n g (length list) (length log) ≡ firstFault n 0 (gatesOf g)
   judged = ap (λ (f : ℕ). refuse f 0 (firstFault n 0 (gatesOf g))) no-fault
 
-  module _ (list′ log′ : List ℕ) (r : TrimReply) (t : TrimList n g list log list′ log′ r) where
+  module _ {list′ log′ : List ℕ} {r : TrimReply} (t : TrimList n g list log list′ log′ r) where
     by-gates : Outcome (firstFault n 0 (gatesOf g)) n g list log list′ log′ r
     by-gates = subst (λ (v : Reply). Outcome v n g list log list′ log′ r) judged (t .outcome)
 
-    module _ (counts : Counts) (is : r ≡ trim.Done counts) where
+    module _ {counts : Counts} (is : r ≡ trim.Done counts) where
       done : (firstFault n 0 (gatesOf g) ≡ reply.Done) × Done-with n g list log list′ log′ counts
       done = go (firstFault n 0 (gatesOf g)) refl by-gates
         where
@@ -76,17 +82,19 @@ module _ (n : ℕ) (g list log : List ℕ) (said : Sayable n g) (room : writeByt
       pub counted : gateBytes * counts .gates ≡ length (take (gateBytes * counts .gates) list′)
       counted = omega (arith, gates-within, length-take (gateBytes * counts .gates) list′, done .1 .gates-kept .long)
 
-      pub trim-printed : (was left : List ℕ) (next : ℕ) → Writes was 0 (trimLines n counts (writtenOf list′ (counts .gates))) left next → Writes-printed (circuit n g) was left next
-      trim-printed was left next w = (
-        trimLines n counts (writtenOf list′ (counts .gates)),
-        subst (λ (v : Reply). PrintsGates v n (gatesOf g) (trimLines n counts (writtenOf list′ (counts .gates)))) (sym (done .0))
-            (record { D = writtenOf list′ (counts .gates); log = log′; counts = counts; trimmed = done .1 .trimmed; written = done .1 .written; lines = refl }),
-        w,
-      )
+      pub trim-printed : {was left : List ℕ} {next : ℕ} → Writes was 0 (trimLines n counts (frontGates (counts .gates) list′)) left next
+          → Writes-printed (circuit n g) was left next
+      trim-printed w =
+          let D = frontGates (counts .gates) list′ in (
+            trimLines n counts D,
+            subst (λ (v : Reply). PrintsGates v n (gatesOf g) (trimLines n counts D)) (sym (done .0))
+                (record { D = D; log = log′; counts = counts; trimmed = done .1 .trimmed; written = done .1 .written; lines = refl }),
+            w,
+          )
 
-    pub gate-printed : (number place : ℕ) → r ≡ trim.Refused number place → (was left : List ℕ) (next : ℕ) → Writes was 0 (refusedLine number place) left next
-        → Writes-printed (circuit n g) was left next
-    gate-printed number place is was left next w = go (firstFault n 0 (gatesOf g)) refl by-gates
+    pub gate-printed : {number place : ℕ} {was left : List ℕ} {next : ℕ} → r ≡ trim.Refused number place
+        → Writes was 0 (refusedLine number place) left next → Writes-printed (circuit n g) was left next
+    gate-printed {number} {place} {was} {left} {next} is w = go (firstFault n 0 (gatesOf g)) refl by-gates
       where
         same : (f p : ℕ) → trim.Refused f p ≡ trim.Refused number place → reply.Refused f p ≡ reply.Refused number place
         same f p e = cc

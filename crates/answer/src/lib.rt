@@ -14,6 +14,7 @@ use circuit::faults::OUTPUT;
 use circuit::limits::GATE_BYTES;
 use circuit::limits::LOG_CELLS;
 use circuit::limits::MAX_LIST_BYTES;
+use circuit::limits::MoveCell;
 use circuit::limits::WRITE_BYTES;
 use text::TextReply;
 use text::limits::REPLY_BYTES;
@@ -66,7 +67,7 @@ fn put_circuit(n: usize, gates: &[u8], out: &mut [u8]) -> usize
     ensures { λ r. ⌜ Writes-printed (circuit n (now (gates .entry))) (now (out .entry)) (now (out .exit)) r ⌝ }
 {
     let mut list = [0u8; WRITE_BYTES];
-    let mut log = [0u8; LOG_CELLS];
+    let mut log = [0 as MoveCell; LOG_CELLS];
     match trim(n, gates, &mut list, &mut log) {
         TrimReply::Done(counts) => put_trimmed(n, counts, &list[..GATE_BYTES * counts.gates], out),
         TrimReply::Refused { number, place } => put_refused(number, place, out, 0),

@@ -10,7 +10,8 @@ ghost use Rattle.synth.specs.Entry.{WriteList, writtenCount, writtenNumber, wri
 ghost use Rattle.text.specs.Entry.{ReadText};
 ghost use Rattle.trimmer.specs.Entry.{TrimList};
 ghost use Rattle.answer.specs.Entry.{AnswerText};
-ghost use Rattle.capi.specs.InC.{InC, FindInC, WriteInC, TrimInC, foundOf, trimNumber, trimPlace, countsOf, TextInC, textNumber, textPlace, textWires, textGates, AnswerInC, answerNumber, answerPlace, answerBytes, MoveInC};
+ghost use Rattle.capi.specs.InC.{InC, FindInC, WriteInC, TrimInC, foundOf, trimNumber, trimPlace, countsOf, TextInC, textNumber};
+ghost use Rattle.capi.specs.InC.{textPlace, textWires, textGates, AnswerInC, answerNumber, answerPlace, answerBytes, MoveInC};
 use answer::Answered;
 use circuit::Reply;
 use circuit::limits::MOVE_CELLS;
@@ -86,7 +87,8 @@ pub extern "C" fn sulmedra_read(
     weights: &mut [u8],
     rows: &mut [u8],
 ) -> SulmedraReply
-    ensures { λ r. ⌜ InC (ReadList n (now (gates .entry)) (now (weights .entry)) (now (rows .entry)) (now (weights .exit)) (now (rows .exit))) (r .number) (r .place) ⌝ }
+    ensures { λ r. ⌜ InC (ReadList n (now (gates .entry)) (now (weights .entry)) (now (rows .entry)) (now (weights .exit))
+        (now (rows .exit))) (r .number) (r .place) ⌝ }
 {
     in_c(circuit::read(n, gates, weights, rows))
 }
@@ -108,7 +110,8 @@ pub extern "C" fn sulmedra_coefficients(
     q: &mut [u8],
     c: &mut [u8],
 ) -> SulmedraReply
-    ensures { λ r. ⌜ InC (CoefficientsOf n (now (weights .entry)) (now (l .entry)) (now (q .entry)) (now (c .entry)) (now (l .exit)) (now (q .exit)) (now (c .exit))) (r .number) (r .place) ⌝ }
+    ensures { λ r. ⌜ InC (CoefficientsOf n (now (weights .entry)) (now (l .entry)) (now (q .entry)) (now (c .entry))
+        (now (l .exit)) (now (q .exit)) (now (c .exit))) (r .number) (r .place) ⌝ }
 {
     in_c(weights::coefficients(n, weights, l, q, c))
 }
@@ -121,7 +124,8 @@ pub extern "C" fn sulmedra_new_weights(
     marks: &[u8],
     out: &mut [u8],
 ) -> SulmedraReply
-    ensures { λ r. ⌜ InC (NewWeightsOf n (now (weights .entry)) (now (marks .entry)) (now (out .entry)) (now (out .exit))) (r .number) (r .place) ⌝ }
+    ensures { λ r. ⌜ InC (NewWeightsOf n (now (weights .entry)) (now (marks .entry)) (now (out .entry)) (now (out .exit)))
+        (r .number) (r .place) ⌝ }
 {
     in_c(weights::new_weights(n, weights, marks, out))
 }
@@ -137,7 +141,8 @@ pub extern "C" fn sulmedra_carry_out(n: usize, marks: &mut [u8], cells: &[u8]) -
 // `finder::find`.
 #[no_mangle]
 pub extern "C" fn sulmedra_find(n: usize, marks: &[u8], cells: &mut [u8]) -> SulmedraFound
-    ensures { λ r. ⌜ FindInC (FindMove n (now (marks .entry)) (now (cells .entry)) (now (cells .exit))) (r .number) (r .place) (r .found) ⌝ }
+    ensures { λ r. ⌜ FindInC (FindMove n (now (marks .entry)) (now (cells .entry)) (now (cells .exit)))
+        (r .number) (r .place) (r .found) ⌝ }
 {
     found_in_c(finder::find(n, marks, cells))
 }
@@ -150,7 +155,8 @@ pub extern "C" fn sulmedra_write(
     rows: &[u8],
     gates: &mut [u8],
 ) -> SulmedraWritten
-    ensures { λ r. ⌜ WriteInC (WriteList n (now (weights .entry)) (now (rows .entry)) (now (gates .entry)) (now (gates .exit))) (r .number) (r .place) (r .gates) ⌝ }
+    ensures { λ r. ⌜ WriteInC (WriteList n (now (weights .entry)) (now (rows .entry)) (now (gates .entry)) (now (gates .exit)))
+        (r .number) (r .place) (r .gates) ⌝ }
 {
     written_in_c(synth::write(n, weights, rows, gates))
 }
@@ -163,7 +169,8 @@ pub extern "C" fn sulmedra_trim(
     out: &mut [u8],
     log: &mut [u8],
 ) -> SulmedraTrimmed
-    ensures { λ r. ⌜ TrimInC (TrimList n (now (gates .entry)) (now (out .entry)) (now (log .entry)) (now (out .exit)) (now (log .exit))) (r .number) (r .place) (r .tin) (r .odd) (r .tout) (r .moves) (r .gates) ⌝ }
+    ensures { λ r. ⌜ TrimInC (TrimList n (now (gates .entry)) (now (out .entry)) (now (log .entry)) (now (out .exit)) (now (log .exit)))
+        (r .number) (r .place) (r .tin) (r .odd) (r .tout) (r .moves) (r .gates) ⌝ }
 {
     trimmed_in_c(trimmer::trim(n, gates, out, log))
 }
@@ -189,7 +196,8 @@ pub extern "C" fn sulmedra_move_at(log: &[u8], k: usize) -> SulmedraPart
 // `text::read_text`.
 #[no_mangle]
 pub extern "C" fn sulmedra_read_text(text: &[u8], gates: &mut [u8]) -> SulmedraText
-    ensures { λ r. ⌜ TextInC (ReadText (now (text .entry)) (now (gates .entry)) (now (gates .exit))) (r .number) (r .place) (r .wires) (r .gates) ⌝ }
+    ensures { λ r. ⌜ TextInC (ReadText (now (text .entry)) (now (gates .entry)) (now (gates .exit)))
+        (r .number) (r .place) (r .wires) (r .gates) ⌝ }
 {
     text_in_c(text::read_text(text, gates))
 }
@@ -220,7 +228,8 @@ fn answered_in_c(reply: Answered) -> SulmedraAnswered
 }
 
 fn text_in_c(reply: TextReply) -> SulmedraText
-    ensures { λ r. ⌜ (r .number ≡ textNumber reply) × (r .place ≡ textPlace reply) × (r .wires ≡ textWires reply) × (r .gates ≡ textGates reply) ⌝ }
+    ensures { λ r. ⌜ (r .number ≡ textNumber reply) × (r .place ≡ textPlace reply) × (r .wires ≡ textWires reply)
+        × (r .gates ≡ textGates reply) ⌝ }
 {
     match reply {
         TextReply::Done { n, gates } => SulmedraText {
@@ -278,7 +287,9 @@ fn written_in_c(reply: Written) -> SulmedraWritten
 }
 
 fn trimmed_in_c(reply: TrimReply) -> SulmedraTrimmed
-    ensures { λ r. ⌜ (r .number ≡ trimNumber reply) × (r .place ≡ trimPlace reply) × (r .tin ≡ countsOf reply .tin) × (r .odd ≡ countsOf reply .odd) × (r .tout ≡ countsOf reply .tout) × (r .moves ≡ countsOf reply .moves) × (r .gates ≡ countsOf reply .gates) ⌝ }
+    ensures { λ r. ⌜ (r .number ≡ trimNumber reply) × (r .place ≡ trimPlace reply) × (r .tin ≡ countsOf reply .tin)
+        × (r .odd ≡ countsOf reply .odd) × (r .tout ≡ countsOf reply .tout) × (r .moves ≡ countsOf reply .moves)
+        × (r .gates ≡ countsOf reply .gates) ⌝ }
 {
     match reply {
         TrimReply::Done(counts) => SulmedraTrimmed {

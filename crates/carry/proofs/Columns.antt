@@ -3,9 +3,9 @@ use mathlib.Core.List.{List, map}
 use mathlib.Core.Logic.{_≢_}
 use mathlib.Core.Path.{_∙_, _≡_, ap, sym}
 use Prim.Native.Nat.{_+_, _<_, _^_, suc, ℕ}
+use native.Mathlib.Nat.{le-refl}
 use native.Mathlib.Numerals.{add-one}
-use native.Mathlib.Omega.{arith}
-use lib.Bits.{bitXor, xor-zero-r}
+use lib.Bits.{bitXor, xor-zero-l, xor-zero-r}
 use lib.Count.{trailingZeros}
 use lib.Dec.{eqb}
 use lib.ListN.{drop, getD, length}
@@ -19,27 +19,34 @@ use Rattle.moves.specs.Move.{Balanced}
 use Rattle.carry.proofs.Deciding.{decides-as, decides-equal}
 use Rattle.carry.specs.Decides.{Decides}
 
--- what the loop keeps: s, with the columns that are still to come, makes up R
-abbrev pub XorTo : (ℕ → ℕ) → List ℕ → ℕ → ℕ → ℕ → Type 0
-XorTo f Y i s R = bitXor s (xorAll (map f (drop i Y))) ≡ R
+-- what the loop keeps: s, with the columns that are still to come, makes up the xor of all
+pub record XorTo (f : ℕ → ℕ) (Y : List ℕ) (i s : ℕ) : Type 0 where
+  pub all : bitXor s (xorAll (map f (drop i Y))) ≡ xorAll (map f Y)
 
-pub xor-next : (f : ℕ → ℕ) (Y : List ℕ) (i s x R : ℕ) → i < length Y → x ≡ f (getD Y i 0) → XorTo f Y i s R → XorTo f Y (i + 1) (bitXor s x) R
-unfolding xorAll
-xor-next f Y i s x R l e h =
-    rw (add-one i, e)
-    (xor-assoc s (f (getD Y i 0)) (xorAll (map f (drop (suc i) Y))) ∙ ap (λ (q : List ℕ). bitXor s (xorAll (map f q))) (sym (drop-cons Y i 0 l)) ∙ h)
+pub xor-none : {f : ℕ → ℕ} {Y : List ℕ} → XorTo f Y 0 0
+xor-none {f} {Y} = record { all = xor-zero-l (xorAll (map f Y)) }
 
-pub xor-end : (f : ℕ → ℕ) (Y : List ℕ) (i s R : ℕ) → i ≡ length Y → XorTo f Y i s R → s ≡ R
+-- x is the column of y, which stands at i
+pub xor-next : {f : ℕ → ℕ} {Y : List ℕ} {i s x y : ℕ} → XorTo f Y i s → i < length Y → y ≡ getD Y i 0 → x ≡ f y
+    → XorTo f Y (i + 1) (bitXor s x)
 unfolding xorAll
-xor-end f Y i s R e h =
-    sym (xor-zero-r s) ∙ ap (λ (q : List ℕ). bitXor s (xorAll (map f q))) (sym (ap (λ (j : ℕ). drop j Y) e ∙ drop-length Y)) ∙ h
+xor-next {f} {Y} {i} {s} h l p q =
+    record {
+      all =
+          rw (add-one i, q, p)
+          (xor-assoc s (f (getD Y i 0)) (xorAll (map f (drop (suc i) Y)))
+          ∙ ap (λ (r : List ℕ). bitXor s (xorAll (map f r))) (sym (drop-cons Y i 0 l)) ∙ h .all);
+    }
+
+pub xor-end : {f : ℕ → ℕ} {Y : List ℕ} {i s : ℕ} → XorTo f Y i s → i ≡ length Y → s ≡ xorAll (map f Y)
+unfolding xorAll
+xor-end {f} {Y} {i} {s} h e =
+    sym (xor-zero-r s) ∙ ap (λ (q : List ℕ). bitXor s (xorAll (map f q))) (sym (ap (λ (j : ℕ). drop j Y) e ∙ drop-length Y)) ∙ h .all
 
 -- t is the lowest wire of z, and N the most wires
-module _ (N z t : ℕ) (is-wire : t ≡ trailingZeros N z) (some : z ≢ 0) (fits : z < 2 ^ N) where
-  pub wire-lt : t < N
-  wire-lt = rw is-wire (lowest N N z (omega arith) some fits .0)
-
-  pub balanced-by-xor : (Y : List ℕ) (s : ℕ) → Below (2 ^ N) Y → s ≡ xorAll (map (kappa N z t) Y) → Decides (eqb s 0) (Balanced N z Y)
-  balanced-by-xor Y s h e =
-      let b = balanced-iff N z t wire-lt (rw is-wire (lowest N N z (omega arith) some fits .1)) Y h in
-      decides-as (eqb s 0) (λ q. b .1 (sym e ∙ q)) (λ q. e ∙ b .0 q) (decides-equal s 0)
+pub balanced-by-xor : {N z t s : ℕ} {Y : List ℕ} → z ≢ 0 → z < 2 ^ N → t ≡ trailingZeros N z → Below (2 ^ N) Y
+    → s ≡ xorAll (map (kappa N z t) Y) → Decides (eqb s 0) (Balanced N z Y)
+balanced-by-xor {N} {z} {t} {s} {Y} some fits is-wire below e =
+    let low = lowest N N z (le-refl N) some fits in
+    let b = balanced-iff N z t (rw is-wire (low .0)) (rw is-wire (low .1)) Y below in
+    decides-as (λ q. b .1 (sym e ∙ q)) (λ q. e ∙ b .0 q) (decides-equal s 0)

@@ -2,43 +2,57 @@
 use mathlib.Core.Bool.{Bool}
 use mathlib.Core.List.{List}
 use mathlib.Core.Logic.{_≢_}
-use mathlib.Core.Path.{_∙_, _≡_, sym}
-use Prim.Native.Nat.{_≤_, ℕ}
+use mathlib.Core.Path.{_∙_, _≡_, refl, sym}
+use Prim.Native.Nat.{_<_, _^_, _≤_, ℕ}
+use native.Mathlib.Decide.{decLt}
 use native.Mathlib.Omega.{arith}
-use lib.ListN.{drop, getD, length, length-drop}
+use lib.Bits.{xor-lt}
+use lib.ListN.{List·getD-eq-default, drop, getD, length, length-drop}
 use lib.Seq.{length-take-le}
 use Rattle.gf2.proofs.Pairing.{xor-equal}
+use Rattle.gf2.specs.Over.{Below}
 use Rattle.moves.proofs.Logs.{cells-checked}
-use Rattle.moves.specs.Log.{LegalCells, setOf, zOf}
-use Rattle.moves.specs.Move.{Balanced, Legal, Separates}
-use Rattle.moves.specs.Sets.{Ascending}
+use Rattle.moves.specs.Log.{LegalCells, MoveForm, setOf, zOf}
+use Rattle.moves.specs.Move.{Legal, Member, Separates}
 use Rattle.carry.proofs.Deciding.{decides-as}
-use Rattle.carry.specs.Decides.{AllMembers, Decides, MoveForm}
+use Rattle.carry.specs.Decides.{AllMembers, Decides}
+
+-- a number beyond the marks is no member
+pub member-inside : (marks : List ℕ) (p : ℕ) → Member marks p → p < length marks
+member-inside marks p m = go (decLt p (length marks))
+  where
+    go : Dec (p < length marks) → p < length marks
+    go (yes l) = l
+    go (no l) = let h : length marks ≤ p = omega arith in absurd (omega (arith, List·getD-eq-default marks 0 h))
+
+-- marks for N wires: members are parities, and so is a z that separates them
+module _ (N : ℕ) (marks Y : List ℕ) (long : length marks ≡ 2 ^ N) (marked : AllMembers marks Y) where
+  pub members-below : Below (2 ^ N) Y
+  members-below i l = rw (← long) (member-inside marks (getD Y i 0) (marked (getD Y i 0) (i, l, refl)))
+
+  pub separates-below : {z : ℕ} → Separates marks z Y → z < 2 ^ N
+  separates-below s =
+      let a = member-inside marks (s .a) (marked (s .a) (s .a-in)) in
+      let b = member-inside marks (s .b) (s .b-member) in
+      rw (s .z-is) (xor-lt N (s .a) (s .b) (omega (arith, a)) (omega (arith, b)))
 
 -- a z that separates is not 0
-pub separates-some : (marks : List ℕ) (z : ℕ) (Y : List ℕ) → Separates marks z Y → z ≢ 0
-separates-some marks z Y s e = s .b-out (rw (← (xor-equal (s .a) (s .b) (sym (s .z-is) ∙ e))) (s .a-in))
+pub separates-some : {marks Y : List ℕ} {z : ℕ} → Separates marks z Y → z ≢ 0
+separates-some s e = s .b-out (rw (← (xor-equal (s .a) (s .b) (sym (s .z-is) ∙ e))) (s .a-in))
 
--- the last condition decides
-pub legal-if-balanced : (most n : ℕ) (marks : List ℕ) (z : ℕ) (Y : List ℕ) (r : Bool) → length Y ≤ most → Ascending Y → AllMembers marks Y → Separates marks z Y
-    → Decides r (Balanced n z Y) → Decides r (Legal most n marks z Y)
-legal-if-balanced most n marks z Y r few ordered marked separates d =
-    decides-as r (λ b. record { few = few; ordered = ordered; marked = marked; separates = separates; balanced = b }) (λ g. g .balanced) d
-
-pub set-few : (most : ℕ) (cells : List ℕ) → MoveForm most cells → length (setOf cells) ≤ most
-set-few most cells f = rw (length-take-le (getD cells 1 0) (drop 2 cells) (omega (arith, length-drop 2 cells))) (f .few)
+pub set-few : {most : ℕ} {cells : List ℕ} → MoveForm most cells → length (setOf cells) ≤ most
+set-few {cells = cells} f = rw (length-take-le (getD cells 1 0) (drop 2 cells) (omega (arith, length-drop 2 cells))) (f .few)
 
 -- cells are a legal move exactly if they have the form of one and the move that they say is legal
 module _ (most n : ℕ) (marks cells : List ℕ) where
   pub said-legal : MoveForm most cells → Legal most n marks (zOf cells) (setOf cells) → LegalCells most n marks cells
-  said-legal f g = cells-checked most n marks cells .1 (record { long = f .long; count = f .few; zeroes = λ i l h. f .zeros i l (omega arith); legal = g })
+  said-legal f g = cells-checked most n marks cells .1 (record { form = f; legal = g })
 
   pub legal-said : LegalCells most n marks cells → MoveForm most cells × Legal most n marks (zOf cells) (setOf cells)
-  legal-said g =
-      let h = cells-checked most n marks cells .0 g in
-      (record { long = h .long; few = h .count; zeros = λ i l k. h .zeroes i l (omega (arith, h .long)) }, h .legal)
+  legal-said g = let h = cells-checked most n marks cells .0 g in (h .form, h .legal)
 
-  -- for cells of the form, the move decides; Y is the part of the cells that code takes for it
-  pub move-if-legal : (Y : List ℕ) (r : Bool) → MoveForm most cells → Y ≡ setOf cells → Decides r (Legal most n marks (zOf cells) Y)
-      → Decides r (LegalCells most n marks cells)
-  move-if-legal Y r f e d = decides-as r (λ g. said-legal f (rw (← e) g)) (λ g. rw e (legal-said g .1)) d
+-- for cells of the form, the move decides; z and Y are what code takes from the cells
+pub move-if-legal : {most n z : ℕ} {marks cells Y : List ℕ} {r : Bool} → MoveForm most cells → z ≡ zOf cells → Y ≡ setOf cells
+    → Decides r (Legal most n marks z Y) → Decides r (LegalCells most n marks cells)
+move-if-legal {most} {n} {z} {marks} {cells} f d e =
+    decides-as (λ g. said-legal most n marks cells f (rw (← d, ← e) g)) (λ g. rw (d, e) (legal-said most n marks cells g .1))

@@ -8,6 +8,7 @@ use native.Mathlib.Omega.{arith}
 use lib.Bits.{bitXor}
 use lib.Dec.{eqb}
 use lib.ListN.{getD, length}
+use borrow.Author.Count.{below-more}
 use borrow.Author.Tests.{eqb-false, eqb-true, not-false, not-true}
 use Rattle.moves.proofs.Deciding.{separates-at}
 use Rattle.moves.specs.Move.{Separates}
@@ -24,23 +25,35 @@ pub decides-equal : (a b : ℕ) → Decides (eqb a b) (a ≡ b)
 decides-equal a b = (eqb-true a b, eqb-false a b)
 
 -- from one question to another with the same answer
-pub decides-as : {P Q : Type 0} (r : Bool) → (P → Q) → (Q → P) → Decides r P → Decides r Q
-decides-as r there back d = (λ e. there (d .0 e), λ e q. d .1 e (back q))
+pub decides-as : {P Q : Type 0} {r : Bool} → (P → Q) → (Q → P) → Decides r P → Decides r Q
+decides-as there back d = (λ e. there (d .0 e), λ e q. d .1 e (back q))
 
-pub decides-not : {P : Type 0} (r : Bool) → Decides r P → Decides (not r) (P → ⊥)
-decides-not r d = (λ e. d .1 (not-true r e), λ e n. n (d .0 (not-false r e)))
+pub decides-not : {P : Type 0} {r : Bool} → Decides r P → Decides (not r) (P → ⊥)
+decides-not {r = r} d = (λ e. d .1 (not-true r e), λ e n. n (d .0 (not-false r e)))
 
 -- what a branch on `!answer` tells
-pub denied : {P : Type 0} (r : Bool) → Decides r P → not r ≡ true → P → ⊥
-denied r d e = d .1 (not-true r e)
+pub denied : {P : Type 0} {r : Bool} → Decides r P → not r ≡ true → P → ⊥
+denied {r = r} d e = d .1 (not-true r e)
 
-pub granted : {P : Type 0} (r : Bool) → Decides r P → not r ≡ false → P
-granted r d e = d .0 (not-false r e)
+pub granted : {P : Type 0} {r : Bool} → Decides r P → not r ≡ false → P
+granted {r = r} d e = d .0 (not-false r e)
 
--- ---- at the end of a loop over a list
+-- ---- a loop over a list
 
-pub all-in : (P : ℕ → Type 0) (Y : List ℕ) (i : ℕ) → length Y ≤ i → ((j : ℕ) → j < i → P (getD Y j 0)) → (y : ℕ) → In y Y → P y
-all-in P Y i l all y t = rw (← (t .2)) (all (t .0) (omega (arith, t .1)))
+-- P holds of those before place i
+pub record Passed (P : ℕ → Type 0) (Y : List ℕ) (i : ℕ) : Type 0 where
+  pub each : (j : ℕ) → j < i → P (getD Y j 0)
+
+pub passed-none : {P : ℕ → Type 0} {Y : List ℕ} → Passed P Y 0
+passed-none = record { each = λ j l. absurd (omega arith) }
+
+-- and of y, which stands there
+pub passed-more : {P : ℕ → Type 0} {Y : List ℕ} {i y : ℕ} → Passed P Y i → y ≡ getD Y i 0 → P y → Passed P Y (i + 1)
+passed-more {P} {Y} {i} p e h = record { each = below-more (λ (j : ℕ). P (getD Y j 0)) i (p .each) (rw (← e) h) }
+
+-- at its end
+pub passed-all : {P : ℕ → Type 0} {Y : List ℕ} {i : ℕ} → Passed P Y i → length Y ≤ i → (y : ℕ) → In y Y → P y
+passed-all p l y t = rw (← (t .2)) (p .each (t .0) (omega (arith, t .1)))
 
 pub ascending-all : (Y : List ℕ) (i : ℕ) → length Y ≤ i + 1 → ((j : ℕ) → j < i → getD Y j 0 < getD Y (j + 1) 0) → Ascending Y
 ascending-all Y i l all j h = rw (← (add-one j)) (all j (omega arith))
@@ -50,11 +63,14 @@ not-ascending Y i l h a = omega (arith, rw (← (add-one i)) at (a i (omega arit
 
 -- ---- z separates
 
-pub separates-found : (marks : List ℕ) (z : ℕ) (Y : List ℕ) (i : ℕ) → i < length Y → Outside marks Y (bitXor (getD Y i 0) z) → Separates marks z Y
-separates-found marks z Y i l o = separates-at marks z Y .1 (i, record { inside = l; member = o .0; outside = o .1 })
+-- y, which stands at i, is the a of some b
+pub separates-found : {marks Y : List ℕ} {z i y : ℕ} → i < length Y → y ≡ getD Y i 0 → Outside marks Y (bitXor y z) → Separates marks z Y
+separates-found {marks} {Y} {z} {i} l e o =
+    let p = rw e at o in
+    separates-at marks z Y .1 (i, record { inside = l; member = p .0; outside = p .1 })
 
-pub separates-none : (marks : List ℕ) (z : ℕ) (Y : List ℕ) (i : ℕ) → length Y ≤ i → ((j : ℕ) → j < i → Outside marks Y (bitXor (getD Y j 0) z) → ⊥)
+pub separates-none : {marks Y : List ℕ} {z i : ℕ} → length Y ≤ i → Passed (λ y. Outside marks Y (bitXor y z) → ⊥) Y i
     → Separates marks z Y → ⊥
-separates-none marks z Y i l none s =
+separates-none {marks} {Y} {z} l none s =
     let p = separates-at marks z Y .0 s in
-    none (p .0) (omega (arith, p .1 .inside)) (p .1 .member, p .1 .outside)
+    none .each (p .0) (omega (arith, p .1 .inside)) (p .1 .member, p .1 .outside)

@@ -6,10 +6,9 @@ use mathlib.Core.Path.{_∙_, _≡_, ap, refl}
 use Prim.Native.Nat.{_*_, _+_, _<_, _≤_, ℕ}
 use native.Mathlib.Omega.{arith}
 use lib.ListN.{drop, length, take}
-use Rattle.circuit.proofs.Judging.{lent-well, refuse-done, refused}
-use Rattle.circuit.specs.Faults.{badMove, lentFault, refuse}
-use Rattle.circuit.specs.Limits.{maxMembers, maxWires, moveCells, parities, tableBytes}
-use Rattle.circuit.specs.Sound.{SoundMarks}
+use Rattle.circuit.proofs.Judging.{refuse-done, refused}
+use Rattle.circuit.specs.Faults.{badMove, refuse}
+use Rattle.circuit.specs.Limits.{maxMembers, moveCells}
 use Rattle.circuit.specs.declared.Reply.{Reply}
 use Rattle.circuit.specs.declared.Reply.the-variants.{Done, Refused}
 use Rattle.moves.proofs.Deciding.{move-is, move-yes}
@@ -17,9 +16,7 @@ use Rattle.moves.proofs.Logs.{cells-say, move-short, move-whole}
 use Rattle.moves.specs.Decide.{isMove}
 use Rattle.moves.specs.Log.{LegalCells, asCells, moveAt, setOf, zOf}
 use Rattle.moves.specs.Move.{Legal}
-use Rattle.circuit.proofs.TableRule.{marks-sound}
-use Rattle.circuit.proofs.TableRule.{call-passes, passes-call}
-use Rattle.circuit.specs.TableFaults.{marksFault}
+use Rattle.carry.proofs.Ways.{Called, call-clear}
 use Rattle.carry.specs.Entry.{CarriesOut, carryFault, carryReply}
 
 -- ---- what the cells say
@@ -34,19 +31,13 @@ legal-as-said most n marks cells = (
 
 -- ---- carry_out
 
--- a call without faults 1, 8 and 6
-abbrev pub Called : ℕ → List ℕ → Type 0
-Called n marks = (1 ≤ n) × (n ≤ maxWires) × SoundMarks parities n marks
-
+-- a call without faults 1, 8 and 6: a wire count within its limits, and sound marks
 pub carry-called : (n : ℕ) (marks : List ℕ) → (carryFault n marks ≡ 0) ↔ Called n marks
-carry-called n marks = (
-  λ e. let a = call-passes n (lentFault (length marks) tableBytes) (marksFault n marks) e in (a .0, a .1, marks-sound parities n marks .0 (a .3)),
-  λ c. passes-call n (lentFault (length marks) tableBytes) (marksFault n marks) (c .0) (c .1) (lent-well (length marks) tableBytes (c .2 .long))
-      (marks-sound parities n marks .1 (c .2)),
-)
+carry-called = call-clear
 
 -- demand 1: nothing that is sound and legal is refused, nothing else is accepted
-pub carry-accepts : (n : ℕ) (marks cells : List ℕ) → (carryReply n marks cells ≡ Done) ↔ (Called n marks × LegalCells maxMembers n marks cells)
+pub carry-accepts : (n : ℕ) (marks cells : List ℕ)
+    → (carryReply n marks cells ≡ Done) ↔ (Called n marks × LegalCells maxMembers n marks cells)
 carry-accepts n marks cells = (
   λ e. let s = refuse-done (carryFault n marks) 0 (cond (isMove maxMembers n marks cells) Done (Refused badMove 0)) e in
       (carry-called n marks .0 (s .0), move-is maxMembers n marks cells (only-true (isMove maxMembers n marks cells) (s .1))),
@@ -69,7 +60,8 @@ module _ (n : ℕ) (marks cells marks′ : List ℕ) (r : Reply) (promise : Carr
 
 -- ---- move_at
 
-pub part-whole : (log : List ℕ) (k : ℕ) → moveCells * k + moveCells ≤ length log → moveAt moveCells log k ≡ take moveCells (drop (moveCells * k) log)
+pub part-whole : (log : List ℕ) (k : ℕ) → moveCells * k + moveCells ≤ length log
+    → moveAt moveCells log k ≡ take moveCells (drop (moveCells * k) log)
 part-whole = move-whole moveCells
 
 pub part-short : (log : List ℕ) (k : ℕ) → length log < moveCells * k + moveCells → moveAt moveCells log k ≡ []

@@ -1,4 +1,4 @@
-pub mod Turns
+pub mod Carrying
 pub mod Deciding
 pub mod Columns
 pub mod Conditions

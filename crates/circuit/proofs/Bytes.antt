@@ -23,7 +23,9 @@ three j bytes h =
     let c : j + 3 ≡ suc (suc (suc j)) = omega arith in
     rw (a, b, c)
     (drop-cons bytes j 0 (omega arith)
-    ∙ ap (λ (l : List ℕ). getD bytes j 0 ∷ l) (drop-cons bytes (suc j) 0 (omega arith) ∙ ap (λ (l : List ℕ). getD bytes (suc j) 0 ∷ l) (drop-cons bytes (suc (suc j)) 0 (omega arith))))
+    ∙ ap (λ (l : List ℕ). getD bytes j 0 ∷ l)
+    (drop-cons bytes (suc j) 0 (omega arith)
+    ∙ ap (λ (l : List ℕ). getD bytes (suc j) 0 ∷ l) (drop-cons bytes (suc (suc j)) 0 (omega arith))))
 
 -- one turn of a loop
 pub gates-step : (bytes : List ℕ) (i : ℕ) → 3 * i + 2 < length bytes → gatesFrom bytes i ≡ byteGate bytes i ∷ gatesFrom bytes (i + 1)

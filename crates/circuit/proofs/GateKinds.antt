@@ -37,7 +37,8 @@ phase-lt (suc (suc (suc zero))) v e = let f : 2 ≡ v = cc in omega arith
 phase-lt (suc (suc (suc (suc zero)))) v e = let f : 4 ≡ v = cc in omega arith
 phase-lt (suc (suc (suc (suc (suc zero))))) v e = let f : 6 ≡ v = cc in omega arith
 phase-lt (suc (suc (suc (suc (suc (suc zero)))))) v e = let f : 7 ≡ v = cc in omega arith
-phase-lt (suc (suc (suc (suc (suc (suc (suc kind))))))) v e = absurd (never (sym (kind-above (suc (suc (suc (suc (suc (suc (suc kind))))))) (omega arith)) ∙ e))
+phase-lt (suc (suc (suc (suc (suc (suc (suc kind))))))) v e =
+    absurd (never (sym (kind-above (suc (suc (suc (suc (suc (suc (suc kind))))))) (omega arith)) ∙ e))
   where
     never : Unknown ≡ Phase v → ⊥
     never e = let z : _≡_ {A = ℕ} 0 1 = cc in omega arith

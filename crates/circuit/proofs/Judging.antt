@@ -7,13 +7,13 @@ use Prim.Native.Nat.{_%_, _+_, _<_, suc, zero, ℕ, _≤_}
 use native.Mathlib.Decide.{decLe, ℕ-discrete}
 use native.Mathlib.Nat.{add-zero}
 use native.Mathlib.Omega.{arith}
+use lib.ListN.{length}
 use borrow.Author.Tests.{eq-eqb, le-leb, lt-leb, ne-eqb}
-use Rattle.circuit.specs.Entry.{readFault}
-use Rattle.circuit.specs.Faults.{AllWellFormed, FirstFault, Has, KindHas, KindWellFormed, WellFormed}
+use Rattle.circuit.specs.Faults.{Accepted, AllWellFormed, FirstFault, Has, KindHas, KindWellFormed, WellFormed}
 use Rattle.circuit.specs.Faults.{cnotFault, firstFault, gateAt, gateFault, gateWire, kindFault, phaseFault, refuse, sameWire}
-use Rattle.circuit.specs.Faults.{lentFault, listCallFault, listFault, orElse, shortFault, wiresFault}
-use Rattle.circuit.specs.Gate.{Gate, gate, kindOf}
-use Rattle.circuit.specs.Limits.{gateBytes, maxListBytes, maxWires, rowCells, tableBytes}
+use Rattle.circuit.specs.Faults.{lentFault, listCallFault, listFault, listReply, orElse, shortFault, wiresFault}
+use Rattle.circuit.specs.Gate.{Gate, gate, gatesOf, kindOf}
+use Rattle.circuit.specs.Limits.{gateBytes, maxListBytes, maxWires}
 use Rattle.circuit.specs.declared.gates.Kind.{Kind}
 use Rattle.circuit.specs.declared.gates.Kind.the-variants.{Cnot, Phase, Unknown}
 use Rattle.circuit.specs.declared.Reply.{Reply}
@@ -85,35 +85,6 @@ pub passes-list-call : (n bytes lent : ℕ) → 1 ≤ n → n ≤ maxWires → b
     → listCallFault n bytes lent ≡ 0
 passes-list-call n bytes lent some few whole short z =
     or-well _ _ (wires-well n some few) (or-well _ _ (list-well bytes whole short) z)
-
--- what a call of `read` without faults 1, 2 and 8 brings
-pub record Called (n m weights rows : ℕ) : Type 0 where
-  pub some : 1 ≤ n
-  pub few : n ≤ maxWires
-  pub whole : m % gateBytes ≡ 0
-  pub short : m ≤ maxListBytes
-  pub weights-long : weights ≡ tableBytes
-  pub rows-long : rows ≡ rowCells
-
-pub read-passes : (n m weights rows : ℕ) → readFault n m weights rows ≡ 0 → Called n m weights rows
-unfolding readFault
-read-passes n m weights rows e =
-    let a = list-call-passes n m (orElse (lentFault weights tableBytes) (lentFault rows rowCells)) e in
-    let d = or-pass (lentFault weights tableBytes) (lentFault rows rowCells) (a .4) in
-    record {
-      some = a .0;
-      few = a .1;
-      whole = a .2;
-      short = a .3;
-      weights-long = lent-pass weights tableBytes (d .0);
-      rows-long = lent-pass rows rowCells (d .1);
-    }
-
-pub passes-read : (n m weights rows : ℕ) → Called n m weights rows → readFault n m weights rows ≡ 0
-unfolding readFault
-passes-read n m weights rows c =
-    passes-list-call n m _ (c .some) (c .few) (c .whole) (c .short)
-    (or-well _ _ (lent-well weights tableBytes (c .weights-long)) (lent-well rows rowCells (c .rows-long)))
 
 -- ---- a gate
 
@@ -302,12 +273,14 @@ first-refused n i (g ∷ gs) number (suc k) f =
     (record { inside = omega (arith, f .inside); before = λ j l. f .before (suc j) (omega arith); has = f .has; first = f .first }))
 
 -- where a list is refused, that is its first fault
-pub refused-first : (n i : ℕ) (gs : List Gate) (number place : ℕ) → firstFault n i gs ≡ Refused number place → (k : ℕ) × (place ≡ i + k) × FirstFault n gs number k
+pub refused-first : (n i : ℕ) (gs : List Gate) (number place : ℕ) → firstFault n i gs ≡ Refused number place
+    → (k : ℕ) × (place ≡ i + k) × FirstFault n gs number k
 unfolding firstFault
 refused-first n i [] number place e = absurd (never number place e)
 refused-first n i (g ∷ gs) number place e = go (ℕ-discrete (gateFault n g) 0) (λ r. refused-first n (suc i) gs number place r)
   where
-    go : Dec (gateFault n g ≡ 0) → (firstFault n (suc i) gs ≡ Refused number place → (k : ℕ) × (place ≡ suc i + k) × FirstFault n gs number k)
+    go : Dec (gateFault n g ≡ 0)
+        → (firstFault n (suc i) gs ≡ Refused number place → (k : ℕ) × (place ≡ suc i + k) × FirstFault n gs number k)
         → (k : ℕ) × (place ≡ i + k) × FirstFault n (g ∷ gs) number k
     go (yes z) r =
         let t = r (rw z at e) in
@@ -334,3 +307,15 @@ refused-first n i (g ∷ gs) number place e = go (ℕ-discrete (gateFault n g) 0
             first = rw number-is at (b .1);
           },
         )
+
+-- ---- a call that brings a list is done exactly if the list is accepted and what it lends has its length
+
+pub list-done : (n : ℕ) (bytes : List ℕ) (lent : ℕ) → listReply n bytes lent ≡ Done → Accepted n bytes × (lent ≡ 0)
+list-done n bytes lent e =
+    let t = refuse-done (listCallFault n (length bytes) lent) 0 (firstFault n 0 (gatesOf bytes)) e in
+    let a = list-call-passes n (length bytes) lent (t .0) in
+    (record { some = a .0; few = a .1; whole = a .2; short = a .3; formed = done-formed n 0 (gatesOf bytes) (t .1) }, a .4)
+
+pub done-list : (n : ℕ) (bytes : List ℕ) (lent : ℕ) → Accepted n bytes → lent ≡ 0 → listReply n bytes lent ≡ Done
+done-list n bytes lent a z =
+    rw (passes-list-call n (length bytes) lent (a .some) (a .few) (a .whole) (a .short) z) (formed-done n 0 (gatesOf bytes) (a .formed))

@@ -5,15 +5,15 @@ use mathlib.Core.Path.{ap, ap₂, subst, sym, _∙_, _≡_}
 use Prim.Native.Nat.{_+_, _<_, _^_, ℕ, _≤_}
 use native.Mathlib.Omega.{arith}
 use lib.ListN.{length}
-use Rattle.circuit.proofs.Judging.{read-passes, done-formed, first-refused, formed-done, passes-read, refuse-done, refused-first}
+use Rattle.circuit.proofs.Judging.{done-list, first-refused, lent-pass, lent-well, list-done, or-pass, or-well, refused-first}
 use Rattle.circuit.proofs.OddSet.{odd-set-at-most-t, t-moves-one}
 use Rattle.circuit.proofs.ReadRuns.{read-runs}
 use Rattle.circuit.proofs.Sound.{read-sound}
-use Rattle.circuit.specs.Entry.{ReadList, readBytes, readFault, readReply}
-use Rattle.circuit.specs.Faults.{Accepted, AllWellFormed, FirstFault, WellFormed, firstFault}
+use Rattle.circuit.specs.Entry.{ReadList, readBytes, readLent, readReply}
+use Rattle.circuit.specs.Faults.{Accepted, AllWellFormed, FirstFault, WellFormed, firstFault, lentFault}
 use Rattle.circuit.specs.Gate.{Gate, gate, gatesOf, isT, tGates}
 use Rattle.circuit.specs.Lent.{readingLent}
-use Rattle.circuit.specs.Limits.{maxWires, parities, rowCells}
+use Rattle.circuit.specs.Limits.{maxWires, rowCells, tableBytes}
 use Rattle.circuit.specs.OddSet.{members, oddSet}
 use Rattle.circuit.specs.Read.{Reading, read}
 use Rattle.circuit.specs.Run.{run}
@@ -32,7 +32,8 @@ pub reading-is-sound : (N n : ℕ) → n ≤ N → (gs : List Gate) → AllWellF
 reading-is-sound = read-sound
 
 -- one T or T dagger put anywhere moves the size of the odd set by exactly one, up or down
-pub one-t-moves-one : (N n : ℕ) → n ≤ N → (xs ys : List Gate) (kind a b : ℕ) → AllWellFormed n xs → AllWellFormed n ys → WellFormed n (gate kind a b) → isT kind ≡ 1
+pub one-t-moves-one : (N n : ℕ) → n ≤ N → (xs ys : List Gate) (kind a b : ℕ) → AllWellFormed n xs → AllWellFormed n ys
+    → WellFormed n (gate kind a b) → isT kind ≡ 1
     → (members (oddSet (read N n (xs ++ gate kind a b ∷ ys) .weights)) ≡ members (oddSet (read N n (xs ++ ys) .weights)) + 1)
     ⊎ (members (oddSet (read N n (xs ++ ys) .weights)) ≡ members (oddSet (read N n (xs ++ gate kind a b ∷ ys) .weights)) + 1)
 one-t-moves-one = t-moves-one
@@ -44,17 +45,18 @@ odd-set-no-larger = odd-set-at-most-t
 -- ---- demand 1: the reply of `read`
 
 -- an accepted list is read: nothing sound is refused
-pub accepted-is-read : (n : ℕ) (bytes : List ℕ) (weights rows : ℕ) → Accepted n bytes → weights ≡ parities → rows ≡ rowCells → readReply n bytes weights rows ≡ Done
+pub accepted-is-read : (n : ℕ) (bytes : List ℕ) (weights rows : ℕ) → Accepted n bytes → weights ≡ tableBytes → rows ≡ rowCells
+    → readReply n bytes weights rows ≡ Done
 accepted-is-read n bytes weights rows a w r =
-    rw (passes-read n (length bytes) weights rows (record { some = a .some; few = a .few; whole = a .whole; short = a .short; weights-long = w; rows-long = r }))
-    (formed-done n 0 (gatesOf bytes) (a .formed))
+    done-list n bytes (readLent weights rows) a (or-well _ _ (lent-well weights tableBytes w) (lent-well rows rowCells r))
 
 -- what is read is accepted: nothing faulty is
-pub read-is-accepted : (n : ℕ) (bytes : List ℕ) (weights rows : ℕ) → readReply n bytes weights rows ≡ Done → Accepted n bytes × (weights ≡ parities) × (rows ≡ rowCells)
+pub read-is-accepted : (n : ℕ) (bytes : List ℕ) (weights rows : ℕ) → readReply n bytes weights rows ≡ Done
+    → Accepted n bytes × (weights ≡ tableBytes) × (rows ≡ rowCells)
 read-is-accepted n bytes weights rows e =
-    let t = refuse-done (readFault n (length bytes) weights rows) 0 (firstFault n 0 (gatesOf bytes)) e in
-    let c = read-passes n (length bytes) weights rows (t .0) in
-    (record { some = c .some; few = c .few; whole = c .whole; short = c .short; formed = done-formed n 0 (gatesOf bytes) (t .1) }, c .weights-long, c .rows-long)
+    let a = list-done n bytes (readLent weights rows) e in
+    let b = or-pass (lentFault weights tableBytes) (lentFault rows rowCells) (a .1) in
+    (a .0, lent-pass weights tableBytes (b .0), lent-pass rows rowCells (b .1))
 
 -- a gate's fault is the first of the list
 pub fault-is-first : (n : ℕ) (gs : List Gate) (number place : ℕ) → firstFault n 0 gs ≡ Refused number place → FirstFault n gs number place
@@ -83,4 +85,5 @@ module _ (n : ℕ) (bytes weights rows weights′ rows′ : List ℕ) (r : ReadL
   read-tells x l = read-runs maxWires n (accepted .few) (gatesOf bytes) (accepted .formed) x l ∙ ap (λ (y : Reading). says n y x) is
 
   pub read-leaves-sound : SoundReading maxWires n (readingLent weights′ rows′)
-  read-leaves-sound = subst (λ (y : Reading). SoundReading maxWires n y) is (read-sound maxWires n (accepted .few) (gatesOf bytes) (accepted .formed))
+  read-leaves-sound =
+      subst (λ (y : Reading). SoundReading maxWires n y) is (read-sound maxWires n (accepted .few) (gatesOf bytes) (accepted .formed))

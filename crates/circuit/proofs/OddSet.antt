@@ -1,4 +1,5 @@
--- The odd set: a T or T dagger put anywhere in a list moves its size by exactly one, no other gate moves it. So a list has at least as many T and T dagger gates as its odd set has members. Over n and N.
+-- The odd set: a T or T dagger put anywhere in a list moves its size by exactly one, no other gate moves it.
+-- So a list has at least as many T and T dagger gates as its odd set has members. Over n and N.
 use mathlib.Core.List.{_++_, List, [], _∷_}
 use mathlib.Core.Logic.{inl, inr, _⊎_}
 use mathlib.Core.Path.{ap, refl, sym, _∙_, _≡_}
@@ -87,11 +88,13 @@ kind-added q v Unknown a b r = refl
 reading-added : (q v : ℕ) (gs : List Gate) (r : Reading) → readFrom gs (added q v r) ≡ added q v (readFrom gs r)
 unfolding readFrom
 reading-added q v [] r = refl
-reading-added q v (gate kind a b ∷ gs) r = ap (readFrom gs) (kind-added q v (kindOf kind) a b r) ∙ reading-added q v gs (readKind (kindOf kind) a b r)
+reading-added q v (gate kind a b ∷ gs) r =
+    ap (readFrom gs) (kind-added q v (kindOf kind) a b r) ∙ reading-added q v gs (readKind (kindOf kind) a b r)
 
 -- ---- one gate put anywhere
 
-module _ (N n : ℕ) (fit : n ≤ N) (xs ys : List Gate) (kind a b : ℕ) (fx : AllWellFormed n xs) (fy : AllWellFormed n ys) (f : WellFormed n (gate kind a b)) where
+module _ (N n : ℕ) (fit : n ≤ N) (xs ys : List Gate) (kind a b : ℕ) (fx : AllWellFormed n xs) (fy : AllWellFormed n ys)
+    (f : WellFormed n (gate kind a b)) where
   -- the list without the gate, and with it
   without : Reading
   without = readFrom ys (read N n xs)
@@ -103,11 +106,15 @@ module _ (N n : ℕ) (fit : n ≤ N) (xs ys : List Gate) (kind a b : ℕ) (fx : 
       rw (reading-keeps N n fit ys (read N n xs) fy s .weights .long) (omega (arith, lands N n fit (read N n xs) s a, s .weights .long))
 
   -- the gate's phase is added at the parity that its wire holds after xs
-  put : turnOf (kindOf kind) % 2 ≡ 1 → (readFrom ys (readGate (gate kind a b) (read N n xs)) .weights) ≡ addAt 8 (without .weights) (row (read N n xs) a) (turnOf (kindOf kind))
+  put : turnOf (kindOf kind) % 2 ≡ 1
+      → (readFrom ys (readGate (gate kind a b) (read N n xs)) .weights)
+      ≡ addAt 8 (without .weights) (row (read N n xs) a) (turnOf (kindOf kind))
   unfolding without readKind
   put = go (kindOf kind)
     where
-      go : (k : Kind) → turnOf k % 2 ≡ 1 → (readFrom ys (readKind k a b (read N n xs)) .weights) ≡ addAt 8 (readFrom ys (read N n xs) .weights) (row (read N n xs) a) (turnOf k)
+      go : (k : Kind) → turnOf k % 2 ≡ 1
+          → (readFrom ys (readKind k a b (read N n xs)) .weights)
+          ≡ addAt 8 (readFrom ys (read N n xs) .weights) (row (read N n xs) a) (turnOf k)
       go Cnot o = absurd (omega arith)
       go (Phase v) o = ap (λ (r : Reading). r .weights) (reading-added (row (read N n xs) a) v ys (read N n xs))
       go Unknown o = absurd (omega arith)
@@ -136,7 +143,9 @@ kind-odds N n fit (Phase v) a b r f o = go (bit-values (v % 2) (omega arith))
 
     go : (v % 2 ≡ 0) ⊎ (v % 2 ≡ 1) → members (oddSet (addAt 8 (r .weights) (row r a) v)) ≤ v % 2 + members (oddSet (r .weights))
     go (inl e) = omega (arith, even-stays (r .weights) (row r a) v (lands N n fit r o a) e)
-    go (inr e) = up (members (oddSet (r .weights))) (members (oddSet (addAt 8 (r .weights) (row r a) v))) e (odd-moves (r .weights) (row r a) v (lands N n fit r o a) e)
+    go (inr e) =
+        up (members (oddSet (r .weights))) (members (oddSet (addAt 8 (r .weights) (row r a) v))) e
+        (odd-moves (r .weights) (row r a) v (lands N n fit r o a) e)
 kind-odds N n fit Unknown a b r f o = absurd f
 
 reading-odds : (N n : ℕ) → n ≤ N → (gs : List Gate) (r : Reading) → AllWellFormed n gs → SoundReading N n r
@@ -155,7 +164,8 @@ members-none : (N : ℕ) → members (oddSet (noWeights N)) ≡ 0
 unfolding odds
 members-none N =
     members-odds (noWeights N)
-    ∙ sum-ext (length (noWeights N)) (λ p. getD (noWeights N) p 0 % 2) (λ p. 0) (λ p l. rw (no-weight N p)) ∙ sum-zero (length (noWeights N))
+    ∙ sum-ext (length (noWeights N)) (λ p. getD (noWeights N) p 0 % 2) (λ p. 0) (λ p l. rw (no-weight N p))
+    ∙ sum-zero (length (noWeights N))
 
 -- the odd set has at most as many members as the list has T and T dagger gates
 pub odd-set-at-most-t : (N n : ℕ) → n ≤ N → (gs : List Gate) → AllWellFormed n gs → members (oddSet (read N n gs .weights)) ≤ tGates gs

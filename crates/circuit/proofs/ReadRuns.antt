@@ -1,4 +1,5 @@
--- Reading is running: for every list without faults and every state, the end state and the phase are those that its weights and rows give. Over n and N.
+-- Reading is running: for every list without faults and every state, the end state and the phase are those that its weights and rows give.
+-- Over n and N.
 use mathlib.Core.List.{List, [], _∷_}
 use mathlib.Core.Logic.{_≢_}
 use mathlib.Core.Path.{ap, ap₂, sym, _∙_, _≡_}
@@ -38,7 +39,8 @@ pub phase-none : (n N x : ℕ) → phaseAt n (noWeights N) x ≡ 0
 unfolding phaseAt weightedSum
 phase-none n N x =
     ap (λ (y : ℕ). y % 8)
-    (sum-ext (length (noWeights N)) (λ p. getD (noWeights N) p 0 * parity n p x) (λ p. 0) (λ p l. rw (no-weight N p) (zero-mul (parity n p x)))
+    (sum-ext (length (noWeights N)) (λ p. getD (noWeights N) p 0 * parity n p x) (λ p. 0)
+    (λ p l. rw (no-weight N p) (zero-mul (parity n p x)))
     ∙ sum-zero (length (noWeights N)))
 
 start-tells : (N n x : ℕ) → n ≤ N → Tells n x (start N n) (record { bits = x; phase = 0 })
@@ -52,12 +54,14 @@ start-tells N n x fit =
 pub target-bit : (a b y : ℕ) → bit (flipTarget a b y) b ≡ (bit y b + bit y a) % 2
 target-bit a b y =
     bit-xor y (bit y a * 2 ^ b) b
-    ∙ ap (λ (c : ℕ). (bit y b + c) % 2) (bit-scale (bit y a) (2 ^ b) b (bit-lt y a) ∙ ap (λ (c : ℕ). bit y a * c) (bit-pow-same b) ∙ mul-one (bit y a))
+    ∙ ap (λ (c : ℕ). (bit y b + c) % 2)
+    (bit-scale (bit y a) (2 ^ b) b (bit-lt y a) ∙ ap (λ (c : ℕ). bit y a * c) (bit-pow-same b) ∙ mul-one (bit y a))
 
 pub other-bit : (a b y i : ℕ) → i ≢ b → bit (flipTarget a b y) i ≡ bit y i
 other-bit a b y i ne =
     bit-xor y (bit y a * 2 ^ b) i
-    ∙ ap (λ (c : ℕ). (bit y i + c) % 2) (bit-scale (bit y a) (2 ^ b) i (bit-lt y a) ∙ ap (λ (c : ℕ). bit y a * c) (bit-pow-other b i (λ e. ne (sym e))) ∙ mul-zero (bit y a))
+    ∙ ap (λ (c : ℕ). (bit y i + c) % 2)
+    (bit-scale (bit y a) (2 ^ b) i (bit-lt y a) ∙ ap (λ (c : ℕ). bit y a * c) (bit-pow-other b i (λ e. ne (sym e))) ∙ mul-zero (bit y a))
     ∙ omega (arith, bit-lt y i)
 
 target-tells : (n x a b y : ℕ) (rows : List ℕ) → a < n → b < n → b < length rows → ((i : ℕ) → i < n → bit y i ≡ parity n (getD rows i 0) x)
@@ -73,14 +77,17 @@ target-tells n x a b y rows la lb low h i l = go (ℕ-discrete i b)
         (sym (parity-xor n (getD rows b 0) (getD rows a 0) x))
     go (no g) = rw (other-bit a b y i g, getD-set-other rows b i joined 0 g) (h i l)
 
-phase-tells : (n x v q c φ : ℕ) (w : List ℕ) → q < length w → c ≡ parity n q x → φ ≡ phaseAt n w x → (φ + v * c) % 8 ≡ phaseAt n (addAt 8 w q v) x
+phase-tells : (n x v q c φ : ℕ) (w : List ℕ) → q < length w → c ≡ parity n q x → φ ≡ phaseAt n w x
+    → (φ + v * c) % 8 ≡ phaseAt n (addAt 8 w q v) x
 unfolding phaseAt
 phase-tells n x v q c φ w h ec eφ =
-    rw (ec, eφ) (mod-add-mod (weightedSum w (λ p. parity n p x)) 8 (v * parity n q x) ∙ sym (weightedSum-addAt 8 w (λ p. parity n p x) q v h))
+    rw (ec, eφ)
+    (mod-add-mod (weightedSum w (λ p. parity n p x)) 8 (v * parity n q x) ∙ sym (weightedSum-addAt 8 w (λ p. parity n p x) q v h))
 
 -- ---- along the list
 
-kind-tells : (N n x : ℕ) → n ≤ N → (k : Kind) (a b : ℕ) (r : Reading) (s : State) → KindWellFormed n k a b → SoundReading N n r → Tells n x r s
+kind-tells : (N n x : ℕ) → n ≤ N → (k : Kind) (a b : ℕ) (r : Reading) (s : State) → KindWellFormed n k a b → SoundReading N n r
+    → Tells n x r s
     → Tells n x (readKind k a b r) (runKind k a b s)
 unfolding readKind runKind
 kind-tells N n x fit Cnot a b r s f o t =
@@ -90,11 +97,13 @@ kind-tells N n x fit (Phase v) a b r s f o t =
     record {
       end = t .end;
       phase =
-          phase-tells n x v (row r a) (bit (s .bits) a) (s .phase) (r .weights) (omega (arith, o .weights .long, o .rows .within a)) (t .end a (f .0)) (t .phase);
+          phase-tells n x v (row r a) (bit (s .bits) a) (s .phase) (r .weights) (omega (arith, o .weights .long, o .rows .within a))
+          (t .end a (f .0)) (t .phase);
     }
 kind-tells N n x fit Unknown a b r s f o t = absurd f
 
-gate-tells : (N n x : ℕ) → n ≤ N → (g : Gate) (r : Reading) (s : State) → WellFormed n g → SoundReading N n r → Tells n x r s → Tells n x (readGate g r) (runGate g s)
+gate-tells : (N n x : ℕ) → n ≤ N → (g : Gate) (r : Reading) (s : State) → WellFormed n g → SoundReading N n r → Tells n x r s
+    → Tells n x (readGate g r) (runGate g s)
 gate-tells N n x fit (gate kind a b) r s f o t = kind-tells N n x fit (kindOf kind) a b r s f o t
 
 reading-tells : (N n x : ℕ) → n ≤ N → (gs : List Gate) (r : Reading) (s : State) → AllWellFormed n gs → SoundReading N n r → Tells n x r s

@@ -117,11 +117,14 @@ module _ (N n : ℕ) (fit : n ≤ N) (rows : List ℕ) (sound : SoundRows N n ro
         long = length-set rows b joined ∙ sound .long;
         within = λ i. at i (ℕ-discrete i b);
         beyond = λ i l. getD-set-other rows b i joined 0 (omega arith) ∙ sound .beyond i l;
-        free = λ s z l e. sound .free (carry b (2 ^ a) s) (carry-nonzero b (2 ^ a) (bit-pow-other a b ne) s z) (carry-lt n b (2 ^ a) s (pow-lt la) l) (sym (combine-join s a b rows low) ∙ e);
+        free =
+            λ s z l e. sound .free (carry b (2 ^ a) s) (carry-nonzero b (2 ^ a) (bit-pow-other a b ne) s z)
+            (carry-lt n b (2 ^ a) s (pow-lt la) l) (sym (combine-join s a b rows low) ∙ e);
       }
     where
       at : (i : ℕ) → Dec (i ≡ b) → getD (set rows b joined) i 0 < 2 ^ n
-      at i (yes e) = rw (e, getD-set-same rows b joined 0 low) (xor-lt n (getD rows b 0) (getD rows a 0) (sound .within b) (sound .within a))
+      at i (yes e) =
+          rw (e, getD-set-same rows b joined 0 low) (xor-lt n (getD rows b 0) (getD rows a 0) (sound .within b) (sound .within a))
       at i (no g) = rw (getD-set-other rows b i joined 0 g) (sound .within i)
 
 -- a wire's parity is never 0
@@ -130,12 +133,14 @@ row-nonzero N n rows sound a la e = sound .free (2 ^ a) (omega (arith, pow-pos a
 
 -- ---- along the list
 
-kind-keeps : (N n : ℕ) → n ≤ N → (k : Kind) (a b : ℕ) (r : Reading) → KindWellFormed n k a b → SoundReading N n r → SoundReading N n (readKind k a b r)
+kind-keeps : (N n : ℕ) → n ≤ N → (k : Kind) (a b : ℕ) (r : Reading) → KindWellFormed n k a b → SoundReading N n r
+    → SoundReading N n (readKind k a b r)
 unfolding readKind
 kind-keeps N n fit Cnot a b r f s = record { weights = s .weights; rows = join-sound N n fit (r .rows) (s .rows) a b (f .0) (f .1) (f .2) }
 kind-keeps N n fit (Phase v) a b r f s =
     record {
-      weights = addAt-sound N n fit (r .weights) (s .weights) (row r a) v (row-nonzero N n (r .rows) (s .rows) a (f .0)) (s .rows .within a);
+      weights =
+          addAt-sound N n fit (r .weights) (s .weights) (row r a) v (row-nonzero N n (r .rows) (s .rows) a (f .0)) (s .rows .within a);
       rows = s .rows;
     }
 kind-keeps N n fit Unknown a b r f s = absurd f
@@ -143,7 +148,8 @@ kind-keeps N n fit Unknown a b r f s = absurd f
 pub gate-keeps : (N n : ℕ) → n ≤ N → (g : Gate) (r : Reading) → WellFormed n g → SoundReading N n r → SoundReading N n (readGate g r)
 gate-keeps N n fit (gate kind a b) r f s = kind-keeps N n fit (kindOf kind) a b r f s
 
-pub reading-keeps : (N n : ℕ) → n ≤ N → (gs : List Gate) (r : Reading) → AllWellFormed n gs → SoundReading N n r → SoundReading N n (readFrom gs r)
+pub reading-keeps : (N n : ℕ) → n ≤ N → (gs : List Gate) (r : Reading) → AllWellFormed n gs → SoundReading N n r
+    → SoundReading N n (readFrom gs r)
 unfolding readFrom
 reading-keeps N n fit [] r f s = s
 reading-keeps N n fit (g ∷ gs) r f s = reading-keeps N n fit gs (readGate g r) (f .1) (gate-keeps N n fit g r (f .0) s)

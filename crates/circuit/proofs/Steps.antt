@@ -39,7 +39,8 @@ no-fault n bytes i e = rw (gates-tail bytes i e)
 
 -- ---- reading the list, gate by gate
 
--- gate i is to be read next: the gates from i on are well formed, the tables so far sound, and what is left of the list gives the whole from them
+-- gate i is to be read next: the gates from i on are well formed, the tables so far sound, and what is left of the list gives the whole
+-- from them
 abbrev pub ReadTo : ℕ → ℕ → List ℕ → Reading → ℕ → Reading → Type 0
 ReadTo N n bytes whole i r = AllWellFormed n (gatesFrom bytes i) × SoundReading N n r × (readFrom (gatesFrom bytes i) r ≡ whole)
 

@@ -115,7 +115,8 @@ table-passes size n most t e = go (ℕ-discrete (length t) size)
         at p (no h) = let g : length t ≤ p = omega arith in rw (List·getD-eq-default t 0 g) (omega arith)
 
 table-well : (size n most : ℕ) (t : List ℕ) → length t ≡ size → Ruled n most t → tableFault size n most t ≡ 0
-table-well size n most t l h = sym (long-table size n most t l) ∙ bytes-well n most 0 t (λ i g. let q : 0 + i ≡ i = omega arith in rw q (h i))
+table-well size n most t l h =
+    sym (long-table size n most t l) ∙ bytes-well n most 0 t (λ i g. let q : 0 + i ≡ i = omega arith in rw q (h i))
 
 -- ---- weights and marks
 

@@ -3,7 +3,7 @@ use mathlib.Core.List.{List}
 use mathlib.Core.Path.{_≡_}
 use Prim.Native.Nat.{ℕ}
 use lib.ListN.{length}
-use Rattle.circuit.specs.Faults.{firstFault, lentFault, listCallFault, orElse, refuse}
+use Rattle.circuit.specs.Faults.{Accepted, lentFault, listReply, orElse}
 use Rattle.circuit.specs.Gate.{gatesOf}
 use Rattle.circuit.specs.Lent.{readingLent, rowsLent, weightsLent}
 use Rattle.circuit.specs.Limits.{maxWires, rowCells, tableBytes}
@@ -29,13 +29,24 @@ readingOf t = readingLent (t .weights) (t .rows)
 abbrev pub readBytes : ℕ → List ℕ → Reading
 readBytes n bytes = read maxWires n (gatesOf bytes)
 
--- 1, 2 and 8, by the lengths of the list, the weights and the rows
-unfoldable pub readFault : ℕ → ℕ → ℕ → ℕ → ℕ
-readFault n bytes weights rows = listCallFault n bytes (orElse (lentFault weights tableBytes) (lentFault rows rowCells))
+-- 8, by the lengths of the weights and the rows lent
+abbrev pub readLent : ℕ → ℕ → ℕ
+readLent weights rows = orElse (lentFault weights tableBytes) (lentFault rows rowCells)
 
 -- the reply, from what goes in alone: 1, 2, 8, then 3, 4, 5 by gate
 abbrev pub readReply : ℕ → List ℕ → ℕ → ℕ → Reply
-readReply n bytes weights rows = refuse (readFault n (length bytes) weights rows) 0 (firstFault n 0 (gatesOf bytes))
+readReply n bytes weights rows = listReply n bytes (readLent weights rows)
+
+-- a list without a fault, and weights and rows lent for it
+pub record ReadInto (n : ℕ) (bytes weights rows : List ℕ) : Type 0 where
+  pub accepted : Accepted n bytes
+  pub weights-fit : length weights ≡ tableBytes
+  pub rows-fit : length rows ≡ rowCells
+
+-- the weights and rows of a list stand in what is lent
+pub record ReadOut (n : ℕ) (bytes weights rows : List ℕ) : Type 0 where
+  pub weights-are : weights ≡ weightsLent (readBytes n bytes)
+  pub rows-are : rows ≡ rowsLent (readBytes n bytes)
 
 -- a lent buffer after a reply: what is to be written, or as it was
 abbrev pub after : Reply → List ℕ → List ℕ → List ℕ

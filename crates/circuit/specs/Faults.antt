@@ -1,4 +1,5 @@
--- Document 01, "Faults": which lists are accepted, and the first fault of one that is not. A fault's number is that of the table; 0 stands for none.
+-- Document 01, "Faults": which lists are accepted, and the first fault of one that is not. A fault's number is that of the table;
+-- 0 stands for none.
 use mathlib.Core.List.{List, [], _∷_}
 use mathlib.Core.Logic.{_≢_, _⊎_}
 use mathlib.Core.Path.{_≡_}
@@ -93,7 +94,8 @@ Has n f (gate kind a b) = KindHas n f (kindOf kind) a b
 abbrev pub gateAt : List Gate → ℕ → Gate
 gateAt gs i = getD gs i (gate 0 0 0)
 
--- gates in order, 3, 4, 5 within a gate: the gates before that place have no fault, and of those that the gate there has, number is the first
+-- gates in order, 3, 4, 5 within a gate: the gates before that place have no fault, and of those that the gate there has,
+-- number is the first
 pub record FirstFault (n : ℕ) (gs : List Gate) (number place : ℕ) : Type 0 where
   pub inside : place < length gs
   pub before : (i : ℕ) → i < place → WellFormed n (gateAt gs i)
@@ -149,6 +151,10 @@ shortFault bytes wanted = either (leb wanted bytes) 0 lentOutput
 -- the first fault of a call that brings a list of so many bytes: 1, 2, then 8 of what it lends
 abbrev pub listCallFault : ℕ → ℕ → ℕ → ℕ
 listCallFault n bytes lent = orElse (wiresFault n) (orElse (listFault bytes) lent)
+
+-- the reply to such a call, from what goes in alone: 1, 2, 8, then 3, 4, 5 by gate; nothing else is refused
+abbrev pub listReply : ℕ → List ℕ → ℕ → Reply
+listReply n bytes lent = refuse (listCallFault n (length bytes) lent) 0 (firstFault n 0 (gatesOf bytes))
 
 -- a fault of a call, which has place 0, or none
 abbrev pub callReply : ℕ → Reply

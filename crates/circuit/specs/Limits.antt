@@ -1,4 +1,5 @@
--- The numbers of document 01, each once, and what follows from them. Every law takes the wire count n, and N for the most wires, as a parameter:
+-- The numbers of document 01, each once, and what follows from them. Every law takes the wire count n, and N for the most wires,
+-- as a parameter:
 -- only contracts cite these.
 use Prim.Native.Nat.{_*_, _+_, _-_, _/_, _^_, ℕ}
 

@@ -1,4 +1,5 @@
--- Document 01, "Gates and what they do": running a list on a basis state. This is the meaning of a circuit; everything else is judged by it.
+-- Document 01, "Gates and what they do": running a list on a basis state. This is the meaning of a circuit;
+-- everything else is judged by it.
 use mathlib.Core.List.{List, [], _∷_}
 use mathlib.Core.Path.{_≡_}
 use Prim.Native.Nat.{_%_, _*_, _+_, _<_, _^_, ℕ}

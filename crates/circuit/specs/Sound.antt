@@ -1,4 +1,5 @@
--- Document 01, "Weights and rows" and "Faults": sound weights, marks and rows, for n wires. N is the number of rows kept, `size` that of the weights or marks.
+-- Document 01, "Weights and rows" and "Faults": sound weights, marks and rows, for n wires.
+-- N is the number of rows kept, `size` that of the weights or marks.
 use mathlib.Core.List.{List}
 use mathlib.Core.Path.{_≡_}
 use Prim.Native.Nat.{_<_, _^_, ℕ, _≤_}

@@ -1,4 +1,5 @@
--- Document 01, "Faults": number 6, of weights and of marks that are lent as an input. A fault's number is that of the table; 0 stands for none.
+-- Document 01, "Faults": number 6, of weights and of marks that are lent as an input. A fault's number is that of the table;
+-- 0 stands for none.
 use mathlib.Core.List.{List, [], _∷_}
 use Prim.Native.Nat.{_^_, suc, ℕ}
 use lib.Dec.{eqb, leb, ltb}

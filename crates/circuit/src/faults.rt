@@ -2,8 +2,7 @@
 // table_faults. Each function gives the fault's number, and 0 where there is none.
 ghost use mathlib.Core.Path.{_≡_};
 ghost use Rattle.circuit.specs.Gate.{gate, gatesOf};
-ghost use Rattle.circuit.specs.Entry.{readFault};
-ghost use Rattle.circuit.specs.Faults.{wiresFault, listFault, lentFault, shortFault, orElse, listCallFault};
+ghost use Rattle.circuit.specs.Faults.{wiresFault, listFault, lentFault, shortFault, orElse, listCallFault, listReply};
 ghost use Rattle.circuit.specs.Faults.{cnotFault, phaseFault, gateFault, firstFault};
 use crate::Reply;
 use crate::gates::Kind;
@@ -11,8 +10,6 @@ use crate::gates::kind_of;
 use crate::limits::GATE_BYTES;
 use crate::limits::MAX_LIST_BYTES;
 use crate::limits::MAX_WIRES;
-use crate::limits::ROW_CELLS;
-use crate::limits::TABLE_BYTES;
 
 pub const WIRE_COUNT: u8 = 1;
 
@@ -81,26 +78,29 @@ pub fn or_else(fault: u8, next: u8) -> u8
     if fault == 0 { next } else { fault }
 }
 
-// The first fault of a call that brings a list of so many bytes: 1, 2, then 8 of the outputs lent.
-pub fn list_call_fault(n: usize, bytes: usize, lent: u8) -> u8
+// The reply to a call that brings a list: 1, 2, then 8 of the outputs lent, then the gates in order.
+pub fn list_reply(n: usize, gates: &[u8], lent: u8) -> Reply
+    ensures { λ r. ⌜ r ≡ listReply n (now (gates .entry)) lent ⌝ }
+{
+    let fault = list_call_fault(n, gates.len(), lent);
+    if fault != 0 {
+        return Reply::Refused {
+            number: fault,
+            place: 0,
+        };
+    }
+    first_fault(n, gates)
+}
+
+// Faults 1, 2 and 8 of it, by the number of its bytes.
+fn list_call_fault(n: usize, bytes: usize, lent: u8) -> u8
     ensures { λ r. ⌜ r ≡ listCallFault n bytes lent ⌝ }
 {
     or_else(wires_fault(n), or_else(list_fault(bytes), lent))
 }
 
-// Faults 1, 2 and 8 of a call of `read`, by the lengths lent.
-pub fn read_fault(n: usize, bytes: usize, weights: usize, rows: usize) -> u8
-    ensures { λ r. ⌜ r ≡ readFault n bytes weights rows ⌝ }
-{
-    let lent = or_else(
-        lent_fault(weights, TABLE_BYTES),
-        lent_fault(rows, ROW_CELLS),
-    );
-    list_call_fault(n, bytes, lent)
-}
-
 // The first of faults 3, 4 and 5 in a list, with its gate index.
-pub fn first_fault(n: usize, gates: &[u8]) -> Reply
+fn first_fault(n: usize, gates: &[u8]) -> Reply
     ensures { λ r. ⌜ r ≡ firstFault n 0 (gatesOf (now (gates .entry))) ⌝ }
 {
     let m = gates.len() / GATE_BYTES;

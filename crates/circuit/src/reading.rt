@@ -48,7 +48,8 @@ pub fn read_gates(n: usize, gates: &[u8]) -> WeightsRows
             }
             // A gate's phase is added at the parity that its wire holds.
             Kind::Phase(v) => {
-                let q = index_of(cell_at(&rows, wire_of(a)));
+                let i = wire_of(a);
+                let q = index_of(cell_at(&rows, i));
                 weights[q] = add_phase(weights[q], v);
             }
             Kind::Unknown => {}

@@ -1,5 +1,5 @@
-// Check 6 of document 01, and the calls that bring weights or marks: 1, 8, then 6. Weights or marks of another length, or with a byte against
-// its rule, are at fault. Each function gives the fault's number, and 0 where there is none.
+// Check 6 of document 01, and the calls that bring weights or marks: 1, 8, then 6. Weights or marks of another length, or with a byte
+// against its rule, are at fault. Each function gives the fault's number, and 0 where there is none.
 ghost use mathlib.Core.Path.{_≡_};
 ghost use Prim.Native.Nat.{_<_};
 ghost use Rattle.circuit.specs.Limits.{parities, tableBytes};

@@ -10,9 +10,10 @@ use lib.ListN.{getD, length, length-map, length-replicate, replicate, set}
 use lib.Pow.{pow-pos}
 use lib.Seq.{getD-set-other, getD-set-same}
 use Rattle.gf2.proofs.Bit.{bit-of-zero}
-use Rattle.gf2.proofs.Combination.{getD-zeros, map-set, span-all}
+use Rattle.gf2.proofs.Combination.{map-set, span-all}
 use Rattle.gf2.proofs.Echelon.{filled-echelon, filled-has, filled-keeps, reached-filled, reached-zero, stopped-none}
 use Rattle.gf2.proofs.Selection.{combine-none}
+use Rattle.gf2.proofs.Table.{getD-zeros}
 use Rattle.gf2.specs.Bit.{bit}
 use Rattle.gf2.specs.Echelon.{Basis, Echelon, Inserted, Reached, Span, Stopped}
 use Rattle.gf2.specs.Over.{xorAll}
@@ -25,7 +26,11 @@ module _ (N : ℕ) (κ : ℕ → ℕ) where
       record {
         echelon =
             record {
-              shape = record { long = length-replicate N 0; lead = λ s l. rw (getD-zeros N s) (record { fits = pow-pos (suc s); leads = λ n. absurd (n refl) }) };
+              shape =
+                  record {
+                    long = length-replicate N 0;
+                    lead = λ s l. rw (getD-zeros N s) (record { fits = pow-pos (suc s); leads = λ n. absurd (n refl) });
+                  };
               masks-long = length-replicate N 0;
               columns-long = length-map (replicate N 0) κ ∙ length-replicate N 0;
               spells = λ s l. rw (getD-zeros N s) (combine-none (map κ (replicate N 0)));
@@ -63,7 +68,8 @@ module _ (N : ℕ) (κ : ℕ → ℕ) where
           from = λ j n. at j n (ℕ-discrete j s);
         }
       where
-        at : (j : ℕ) → getD (set vec s rest) j 0 ≢ 0 → Dec (j ≡ s) → (getD (set member s y) j 0 ≡ y) ⊎ ((getD vec j 0 ≢ 0) × (getD (set member s y) j 0 ≡ getD member j 0))
+        at : (j : ℕ) → getD (set vec s rest) j 0 ≢ 0 → Dec (j ≡ s)
+            → (getD (set member s y) j 0 ≡ y) ⊎ ((getD vec j 0 ≢ 0) × (getD (set member s y) j 0 ≡ getD member j 0))
         at j n (yes e) = inl (ap (λ (i : ℕ). getD (set member s y) i 0) e ∙ getD-set-same member s y 0 (rw len (t .slot)))
         at j n (no d) = inr (λ z. n (getD-set-other vec s j rest 0 d ∙ z), getD-set-other member s j y 0 d)
 
@@ -95,9 +101,11 @@ module _ (N : ℕ) (κ : ℕ → ℕ) where
     -- which are allowed
     pub basis-names : (v rest m s : ℕ) → Reached vec mask v rest m → bit m s ≡ 1 → P (getD member s 0)
     basis-names v rest m s r e =
-        h .from s (λ z. let q : _≡_ {A = ℕ} 1 0 = sym e ∙ reached-filled vec mask N (map κ member) (h .echelon) v rest m s r z in omega arith)
+        h .from s
+        (λ z. let q : _≡_ {A = ℕ} 1 0 = sym e ∙ reached-filled vec mask N (map κ member) (h .echelon) v rest m s r z in omega arith)
 
     -- v stopped at an empty slot is the xor of no list of allowed columns
-    pub basis-none-gives : (v s rest m : ℕ) → Stopped N vec mask v s rest m → (W : List ℕ) → ((i : ℕ) → i < length W → P (getD W i 0)) → xorAll (map κ W) ≡ v → ⊥
+    pub basis-none-gives : (v s rest m : ℕ) → Stopped N vec mask v s rest m → (W : List ℕ) → ((i : ℕ) → i < length W → P (getD W i 0))
+        → xorAll (map κ W) ≡ v → ⊥
     basis-none-gives v s rest m t W only e =
         stopped-none vec mask N v s rest m (h .echelon .shape) t (rw (← e) (span-all vec κ W (λ i l. h .spans (getD W i 0) (only i l))))

@@ -36,13 +36,11 @@ pub bit-xor : (a b i : ℕ) → bit (bitXor a b) i ≡ (bit a i + bit b i) % 2
 unfolding bit
 bit-xor a b i = rw (xor-shr a b i) (omega (arith, xor-add-and (a / 2 ^ i) (b / 2 ^ i)))
 
-half-lt : (k p : ℕ) → p < 2 ^ suc k → p / 2 < 2 ^ k
-half-lt k p h = omega arith
-
 pub bit-ext : (k a b : ℕ) → a < 2 ^ k → b < 2 ^ k → ((i : ℕ) → i < k → bit a i ≡ bit b i) → a ≡ b
 bit-ext zero a b ha hb e = omega arith
 bit-ext (suc k) a b ha hb e =
-    let h : a / 2 ≡ b / 2 = bit-ext k (a / 2) (b / 2) (half-lt k a ha) (half-lt k b hb) (λ i l. sym (bit-suc a i) ∙ e (suc i) (omega arith) ∙ bit-suc b i) in
+    let h : a / 2 ≡ b / 2 =
+    bit-ext k (a / 2) (b / 2) (omega arith) (omega arith) (λ i l. sym (bit-suc a i) ∙ e (suc i) (omega arith) ∙ bit-suc b i) in
     let l : a % 2 ≡ b % 2 = sym (bit-zero a) ∙ e 0 (omega arith) ∙ bit-zero b in
     omega arith
 

@@ -6,7 +6,7 @@ use native.Mathlib.Nat.{mul-zero, zero-mul}
 use native.Mathlib.Numerals.{add-one}
 use native.Mathlib.Omega.{arith}
 use lib.Bits.{bitXor, xor-self, xor-zero-l, xor-zero-r}
-use lib.ListN.{getD, length, replicate, set}
+use lib.ListN.{getD, length, set}
 use lib.Pow.{field, mod-mod-pow}
 use Rattle.gf2.proofs.Bit.{bit-of-zero, bit-scale, bit-xor}
 use Rattle.gf2.proofs.Selection.{combine-none, combine-scale, combine-set, combine-xor}
@@ -56,7 +56,8 @@ combine-combine u (m ∷ masks) ys =
     ∙ sym (combine-cons u (combine m ys) (map (λ m. combine m ys) masks))
 
 -- one number replaced
-pub combine-put : (u s x : ℕ) (ys : List ℕ) → s < length ys → combine u (set ys s x) ≡ bitXor (combine u ys) (bit u s * bitXor (getD ys s 0) x)
+pub combine-put : (u s x : ℕ) (ys : List ℕ) → s < length ys
+    → combine u (set ys s x) ≡ bitXor (combine u ys) (bit u s * bitXor (getD ys s 0) x)
 combine-put u s x ys l =
     let y : ℕ = getD ys s 0 in
     let e : bitXor y (bitXor y x) ≡ x = sym (xor-assoc y y x) ∙ rw (xor-self y) (xor-zero-l x) in
@@ -76,12 +77,6 @@ getD-map f [] i l = absurd (omega arith)
 getD-map f (y ∷ ys) zero l = refl
 getD-map f (y ∷ ys) (suc i) l = getD-map f ys i (omega arith)
 
--- a list of zeros
-pub getD-zeros : (k i : ℕ) → _≡_ {A = ℕ} (getD (replicate k 0) i 0) 0
-getD-zeros zero i = refl
-getD-zeros (suc k) zero = refl
-getD-zeros (suc k) (suc i) = getD-zeros k i
-
 -- ---- the span of a list
 
 pub span-zero : (ys : List ℕ) → Span ys 0
@@ -94,4 +89,5 @@ span-xor ys x y p q = (bitXor (p .0) (q .0), combine-xor (p .0) (q .0) ys ∙ ap
 pub span-all : (ys : List ℕ) (κ : ℕ → ℕ) (W : List ℕ) → ((i : ℕ) → i < length W → Span ys (κ (getD W i 0))) → Span ys (xorAll (map κ W))
 unfolding xorAll
 span-all ys κ [] h = span-zero ys
-span-all ys κ (w ∷ W) h = span-xor ys (κ w) (xorAll (map κ W)) (h 0 (suc-le-suc zero-le)) (span-all ys κ W (λ i l. h (suc i) (suc-le-suc l)))
+span-all ys κ (w ∷ W) h =
+    span-xor ys (κ w) (xorAll (map κ W)) (h 0 (suc-le-suc zero-le)) (span-all ys κ W (λ i l. h (suc i) (suc-le-suc l)))

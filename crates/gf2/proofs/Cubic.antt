@@ -1,4 +1,5 @@
--- What y ↦ y xor z does to a product of three bits, summed over a list: the sum stays even where the xor of the list is 0 and the terms with one bit of z are even.
+-- What y ↦ y xor z does to a product of three bits, summed over a list:
+-- the sum stays even where the xor of the list is 0 and the terms with one bit of z are even.
 use mathlib.Core.List.{List}
 use mathlib.Core.Path.{_∙_, _≡_, ap, ap₂, sym}
 use Prim.Native.Nat.{_%_, _*_, _+_, _<_, ℕ}
@@ -43,7 +44,8 @@ module _ (z i j k : ℕ) where
   unfolding lin
   cub-mod y =
       rw (bit-xor y z i, bit-xor y z j, bit-xor y z k)
-      (cube (bit y i) (bit y j) (bit y k) (bit z i) (bit z j) (bit z k) (bit-lt y i) (bit-lt y j) (bit-lt y k) (bit-lt z i) (bit-lt z j) (bit-lt z k))
+      (cube (bit y i) (bit y j) (bit y k) (bit z i) (bit z j) (bit z k)
+      (bit-lt y i) (bit-lt y j) (bit-lt y k) (bit-lt z i) (bit-lt z j) (bit-lt z k))
 
   even-bits : (ys : List ℕ) → xorAll ys ≡ 0 → (t : ℕ) → sumOver (λ y. bit y t) ys % 2 ≡ 0
   even-bits ys h t = sym (xorAll-bit t ys) ∙ rw h (bit-of-zero t)
@@ -57,7 +59,8 @@ module _ (z i j k : ℕ) where
       ap (λ (n : ℕ). n % 2)
       (sumOver-add (λ y. A * bit y k) (λ y. B * bit y j + C * bit y i) ys
       ∙ ap₂ (λ (m n : ℕ). m + n) (sumOver-scale A (λ y. bit y k) ys)
-      (sumOver-add (λ y. B * bit y j) (λ y. C * bit y i) ys ∙ ap₂ (λ (m n : ℕ). m + n) (sumOver-scale B (λ y. bit y j) ys) (sumOver-scale C (λ y. bit y i) ys)))
+      (sumOver-add (λ y. B * bit y j) (λ y. C * bit y i) ys
+      ∙ ap₂ (λ (m n : ℕ). m + n) (sumOver-scale B (λ y. bit y j) ys) (sumOver-scale C (λ y. bit y i) ys)))
       ∙ even3 (A * sumOver (λ y. bit y k) ys) (B * sumOver (λ y. bit y j) ys) (C * sumOver (λ y. bit y i) ys)
       (even-mul A _ (even-bits ys h k)) (even-mul B _ (even-bits ys h j)) (even-mul C _ (even-bits ys h i))
 
@@ -66,5 +69,6 @@ module _ (z i j k : ℕ) where
       let Z : ℕ = bit z i * bit z j * bit z k in
       close (sumOver cub ys) (sumOver quad ys) (sumOver lin ys) (length ys * Z)
       (sumOver-mod 2 cub (λ y. quad y + lin y + Z) cub-mod ys
-      ∙ ap (λ (n : ℕ). n % 2) (sumOver-add (λ y. quad y + lin y) (λ y. Z) ys ∙ ap₂ (λ (m n : ℕ). m + n) (sumOver-add quad lin ys) (sumOver-const Z ys)))
+      ∙ ap (λ (n : ℕ). n % 2)
+      (sumOver-add (λ y. quad y + lin y) (λ y. Z) ys ∙ ap₂ (λ (m n : ℕ). m + n) (sumOver-add quad lin ys) (sumOver-const Z ys)))
       hq (even-lin ys hx)

@@ -1,4 +1,5 @@
--- More numbers below 2 ^ N than N have a combination that is 0, and not the empty one. By counting: the 2 ^ N + 1 masks 0 .. 2 ^ N cannot all give different values.
+-- More numbers below 2 ^ N than N have a combination that is 0, and not the empty one.
+-- By counting: the 2 ^ N + 1 masks 0 .. 2 ^ N cannot all give different values.
 use mathlib.Core.List.{List, [], _∷_}
 use mathlib.Core.Logic.{_≢_, _⊎_, inl, inr}
 use mathlib.Core.Path.{_∙_, _≡_, ap, sym}
@@ -19,7 +20,8 @@ search-for : (f : ℕ → ℕ) (c m : ℕ) → ((i : ℕ) × (i < m) × (f i ≡
 search-for f c zero = inr (λ i l. absurd (omega arith))
 search-for f c (suc m) = go (search-for f c m) (ℕ-discrete (f m) c)
   where
-    go : ((i : ℕ) × (i < m) × (f i ≡ c)) ⊎ ((i : ℕ) → i < m → f i ≢ c) → Dec (f m ≡ c) → ((i : ℕ) × (i < suc m) × (f i ≡ c)) ⊎ ((i : ℕ) → i < suc m → f i ≢ c)
+    go : ((i : ℕ) × (i < m) × (f i ≡ c)) ⊎ ((i : ℕ) → i < m → f i ≢ c) → Dec (f m ≡ c)
+        → ((i : ℕ) × (i < suc m) × (f i ≡ c)) ⊎ ((i : ℕ) → i < suc m → f i ≢ c)
     go (inl t) d = inl (t .0, omega arith, t .2)
     go (inr h) (yes e) = inl (m, le-refl _, e)
     go (inr h) (no n) = inr (λ i l e. at i l e (ℕ-discrete i m))
@@ -75,7 +77,8 @@ pub combine-lt : (N s : ℕ) (ys : List ℕ) → Below (2 ^ N) ys → combine s 
 unfolding combine
 combine-lt N s [] h = pow-pos N
 combine-lt N s (y ∷ ys) h =
-    xor-lt N (s % 2 * y) (combine (s / 2) ys) (scale-lt (s % 2) y (2 ^ N) (omega arith) (h 0 (omega arith))) (combine-lt N (s / 2) ys (λ i l. h (suc i) (suc-le-suc l)))
+    xor-lt N (s % 2 * y) (combine (s / 2) ys) (scale-lt (s % 2) y (2 ^ N) (omega arith) (h 0 (omega arith)))
+    (combine-lt N (s / 2) ys (λ i l. h (suc i) (suc-le-suc l)))
 
 -- a mask of N + 1 bits, not 0, whose combination is 0
 pub dependent : (N : ℕ) (ys : List ℕ) → Below (2 ^ N) ys → (u : ℕ) × (u ≢ 0) × (u < 2 ^ suc N) × (combine u ys ≡ 0)

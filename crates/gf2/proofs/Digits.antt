@@ -36,7 +36,12 @@ module _ (b : ℕ → ℕ) (bits : (i : ℕ) → b i < 2) where
 
       go : Dec (n ≡ i) → (i < n → bit (sum n (λ i. b i * 2 ^ i)) i ≡ b i) → bit (sum n (λ i. b i * 2 ^ i) + b n * 2 ^ n) i ≡ b i
       go (yes e) r =
-          rw (← e, bit-on-top n (sum n (λ i. b i * 2 ^ i)) (b n) n (digits-lt n) (bits n), bit-high n (sum n (λ i. b i * 2 ^ i)) (digits-lt n), bit-pow-same n)
+          rw (
+            ← e,
+            bit-on-top n (sum n (λ i. b i * 2 ^ i)) (b n) n (digits-lt n) (bits n),
+            bit-high n (sum n (λ i. b i * 2 ^ i)) (digits-lt n),
+            bit-pow-same n,
+          )
           (omega (arith, bits n))
       go (no ne) r =
           rw (bit-on-top n (sum n (λ i. b i * 2 ^ i)) (b n) i (digits-lt n) (bits n), bit-pow-other n i ne, r (omega arith))

@@ -1,4 +1,5 @@
--- The echelon decides: a number that comes down to 0 is the combination that its mask names, and one that is stopped at an empty slot is no combination at all.
+-- The echelon decides: a number that comes down to 0 is the combination that its mask names,
+-- and one that is stopped at an empty slot is no combination at all.
 use mathlib.Core.List.{List, map}
 use mathlib.Core.Logic.{_≢_, _⊎_, inl, inr}
 use mathlib.Core.Path.{_∙_, _≡_, ap, ap₂, refl, sym}
@@ -33,7 +34,8 @@ module _ (N : ℕ) (vec : List ℕ) (shape : Shape N vec) where
   -- where slot s is empty, no combination has its leading bit at s
   absent : (k s u : ℕ) → k ≤ N → s < k → getD vec s 0 ≡ 0 → 2 ^ s ≤ combine (u % 2 ^ k) vec → combine (u % 2 ^ k) vec < 2 ^ suc s → ⊥
   absent zero s u g l e lo hi = omega arith
-  absent (suc k) s u g l e lo hi = go (ℕ-discrete k s) (bit-values (bit u k) (bit-lt u k)) (ℕ-discrete (getD vec k 0) 0) (λ h. absent k s u (omega arith) h e)
+  absent (suc k) s u g l e lo hi =
+      go (ℕ-discrete k s) (bit-values (bit u k) (bit-lt u k)) (ℕ-discrete (getD vec k 0) 0) (λ h. absent k s u (omega arith) h e)
     where
       same : bit u k * getD vec k 0 ≡ 0 → combine (u % 2 ^ suc k) vec ≡ combine (u % 2 ^ k) vec
       same z = combine-next u k vec ∙ rw z (xor-zero-r (combine (u % 2 ^ k) vec))
@@ -54,7 +56,8 @@ module _ (N : ℕ) (vec : List ℕ) (shape : Shape N vec) where
           let one : bit u k * getD vec k 0 ≡ getD vec k 0 = rw d (one-mul (getD vec k 0)) in
           omega (
             arith,
-            xor-lead k (combine (u % 2 ^ k) vec) (getD vec k 0) (low-slots k u (omega arith)) (shape .lead k g .leads z) (shape .lead k g .fits),
+            xor-lead k (combine (u % 2 ^ k) vec) (getD vec k 0) (low-slots k u (omega arith)) (shape .lead k g .leads z)
+                (shape .lead k g .fits),
             combine-next u k vec ∙ ap (bitXor (combine (u % 2 ^ k) vec)) one,
             pow-mono {i = suc s} {j = k} (omega arith),
           )
@@ -74,12 +77,14 @@ module _ (vec mask : List ℕ) where
   pub reached-start : (v : ℕ) → Reached vec mask v v 0
   reached-start v = record { by = 0; left = rw (combine-none vec) (xor-zero-l v); masks = combine-none mask }
 
-  pub reached-step : (v rest m s : ℕ) → Reached vec mask v rest m → Reached vec mask v (bitXor rest (getD vec s 0)) (bitXor m (getD mask s 0))
+  pub reached-step : (v rest m s : ℕ) → Reached vec mask v rest m
+      → Reached vec mask v (bitXor rest (getD vec s 0)) (bitXor m (getD mask s 0))
   reached-step v rest m s r =
       record {
         by = bitXor (r .by) (2 ^ s);
         left =
-            ap (λ (x : ℕ). bitXor x (bitXor rest (getD vec s 0))) (combine-xor (r .by) (2 ^ s) vec ∙ ap (bitXor (combine (r .by) vec)) (combine-one s vec))
+            ap (λ (x : ℕ). bitXor x (bitXor rest (getD vec s 0)))
+            (combine-xor (r .by) (2 ^ s) vec ∙ ap (bitXor (combine (r .by) vec)) (combine-one s vec))
             ∙ swap (combine (r .by) vec) (getD vec s 0) rest ∙ r .left;
         masks = combine-xor (r .by) (2 ^ s) mask ∙ ap₂ bitXor (r .masks) (combine-one s mask);
       }
@@ -107,12 +112,14 @@ module _ (vec mask : List ℕ) where
       where
         spelled : map (λ m. combine m columns) mask ≡ vec
         spelled =
-            ext-getD 0 (map (λ m. combine m columns) mask) vec (length-map mask (λ m. combine m columns) ∙ ech .masks-long ∙ sym (ech .shape .long))
+            ext-getD 0 (map (λ m. combine m columns) mask) vec
+            (length-map mask (λ m. combine m columns) ∙ ech .masks-long ∙ sym (ech .shape .long))
             (λ s l. slot s (rw (length-map mask (λ m. combine m columns), ech .masks-long) at l))
           where
             slot : (s : ℕ) → s < N → getD (map (λ m. combine m columns) mask) s 0 ≡ getD vec s 0
             slot s l =
-                ap (λ (d : ℕ). getD (map (λ m. combine m columns) mask) s d) (sym (combine-none columns)) ∙ List·getD-map (λ m. combine m columns) mask s 0
+                ap (λ (d : ℕ). getD (map (λ m. combine m columns) mask) s d) (sym (combine-none columns))
+                ∙ List·getD-map (λ m. combine m columns) mask s 0
                 ∙ ech .spells s l
 
     -- come down to 0, v is the combination that m names
@@ -121,7 +128,8 @@ module _ (vec mask : List ℕ) where
 
     -- and m names filled slots only
     pub reached-filled : (v rest m t : ℕ) → Reached vec mask v rest m → getD vec t 0 ≡ 0 → bit m t ≡ 0
-    reached-filled v rest m t r e = rw (← (r .masks)) (combine-bit-none (r .by) t mask (λ s l. ech .filled s t (rw (ech .masks-long) at l) e))
+    reached-filled v rest m t r e =
+        rw (← (r .masks)) (combine-bit-none (r .by) t mask (λ s l. ech .filled s t (rw (ech .masks-long) at l) e))
 
 -- ---- slot s filled by the column v that was stopped there
 
@@ -165,7 +173,8 @@ module _ (N : ℕ) (vec mask columns : List ℕ) (v s rest m : ℕ) (ech : Echel
       masked : getD (set mask s (bitXor m (2 ^ s))) s 0 ≡ bitXor m (2 ^ s)
       masked = getD-set-same mask s (bitXor m (2 ^ s)) 0 (rw (ech .masks-long) (t .slot))
 
-      spells′ : (i : ℕ) → i < N → Dec (i ≡ s) → combine (getD (set mask s (bitXor m (2 ^ s))) i 0) (set columns s v) ≡ getD (set vec s rest) i 0
+      spells′ : (i : ℕ) → i < N → Dec (i ≡ s)
+          → combine (getD (set mask s (bitXor m (2 ^ s))) i 0) (set columns s v) ≡ getD (set vec s rest) i 0
       spells′ i l (yes q) = rw (q, masked, now) opened
       spells′ i l (no n) =
           rw (getD-set-other mask s i (bitXor m (2 ^ s)) 0 n, getD-set-other vec s i rest 0 n)
@@ -174,7 +183,13 @@ module _ (N : ℕ) (vec mask columns : List ℕ) (v s rest m : ℕ) (ech : Echel
       filled′ : (i j : ℕ) → i < N → getD (set vec s rest) j 0 ≡ 0 → Dec (i ≡ s) → bit (getD (set mask s (bitXor m (2 ^ s))) i 0) j ≡ 0
       filled′ i j l z (yes q) =
           let w = was j z in
-          rw (q, masked, bit-xor m (2 ^ s) j, bit-pow-other s j (λ x. w .0 (sym x)), reached-filled vec mask N columns ech v rest m j (t .reached) (w .1))
+          rw (
+            q,
+            masked,
+            bit-xor m (2 ^ s) j,
+            bit-pow-other s j (λ x. w .0 (sym x)),
+            reached-filled vec mask N columns ech v rest m j (t .reached) (w .1),
+          )
       filled′ i j l z (no n) = let w = was j z in rw (getD-set-other mask s i (bitXor m (2 ^ s)) 0 n) (ech .filled i j l (w .1))
 
   -- the span only grows
@@ -184,7 +199,9 @@ module _ (N : ℕ) (vec mask columns : List ℕ) (v s rest m : ℕ) (ech : Echel
       let b : ℕ = bit u s in (
         bitXor u (b * 2 ^ s),
         combine-xor u (b * 2 ^ s) (set vec s rest)
-            ∙ ap₂ bitXor (combine-put u s rest vec (rw (ech .shape .long) (t .slot)) ∙ ap (λ (y : ℕ). bitXor (combine u vec) (b * y)) (rw (t .empty) (xor-zero-l rest)))
+            ∙ ap₂ bitXor
+            (combine-put u s rest vec (rw (ech .shape .long) (t .slot))
+            ∙ ap (λ (y : ℕ). bitXor (combine u vec) (b * y)) (rw (t .empty) (xor-zero-l rest)))
             (combine-scale b (2 ^ s) (set vec s rest) (bit-lt u s) ∙ ap (λ (y : ℕ). b * y) (combine-one s (set vec s rest) ∙ now))
             ∙ xor-cancel (combine u vec) (b * rest) ∙ p .1,
       )

@@ -1,4 +1,5 @@
--- A weighted sum of parities, modulo 8, by the weighted sums over the parities with one wire, with two and with three (its moments). W are the weights of M parities.
+-- A weighted sum of parities, modulo 8, by the weighted sums over the parities with one wire, with two and with three (its moments).
+-- W are the weights of M parities.
 use mathlib.Core.Path.{ap, sym, _∙_, _≡_}
 use Prim.Native.Nat.{_%_, _*_, _+_, ℕ}
 use native.Mathlib.Nat.{mul-comm}
@@ -28,7 +29,9 @@ e3-nest n b =
 
 module _ (M : ℕ) (W : ℕ → ℕ) where
   pull : (n : ℕ) (F : ℕ → ℕ → ℕ) → sum M (λ p. W p * sum n (λ i. F p i)) ≡ sum n (λ i. sum M (λ p. W p * F p i))
-  pull n F = sum-ext M (λ p. W p * sum n (λ i. F p i)) (λ p. sum n (λ i. W p * F p i)) (λ p l. sym (sum-scale n (W p) (F p))) ∙ sum-swap M n (λ p i. W p * F p i)
+  pull n F =
+      sum-ext M (λ p. W p * sum n (λ i. F p i)) (λ p. sum n (λ i. W p * F p i)) (λ p l. sym (sum-scale n (W p) (F p)))
+      ∙ sum-swap M n (λ p i. W p * F p i)
 
   -- the moments
   unfoldable pub firstMoment : ℕ → ℕ
@@ -52,12 +55,14 @@ module _ (M : ℕ) (W : ℕ → ℕ) where
     first =
         pull n b
         ∙ sum-ext n (λ i. sum M (λ p. W p * b p i)) (λ i. bit x i * firstMoment i)
-        (λ i l. sum-ext M (λ p. W p * b p i) (λ p. bit x i * (W p * bit p i)) (λ p h. omega arith) ∙ sum-scale M (bit x i) (λ p. W p * bit p i))
+        (λ i l. sum-ext M (λ p. W p * b p i) (λ p. bit x i * (W p * bit p i)) (λ p h. omega arith)
+        ∙ sum-scale M (bit x i) (λ p. W p * bit p i))
 
     second : sum M (λ p. W p * e2 n (b p)) ≡ sum n (λ j. sum j (λ i. bit x i * bit x j * secondMoment i j))
     unfolding b secondMoment
     second =
-        sum-ext M (λ p. W p * e2 n (b p)) (λ p. W p * sum n (λ j. sum j (λ i. b p i * b p j))) (λ p l. ap (λ (s : ℕ). W p * s) (e2-nest n (b p)))
+        sum-ext M (λ p. W p * e2 n (b p)) (λ p. W p * sum n (λ j. sum j (λ i. b p i * b p j)))
+        (λ p l. ap (λ (s : ℕ). W p * s) (e2-nest n (b p)))
         ∙ pull n (λ p j. sum j (λ i. b p i * b p j))
         ∙ sum-ext n (λ j. sum M (λ p. W p * sum j (λ i. b p i * b p j))) (λ j. sum j (λ i. bit x i * bit x j * secondMoment i j))
         (λ j l. pull j (λ p i. b p i * b p j)
@@ -68,18 +73,23 @@ module _ (M : ℕ) (W : ℕ → ℕ) where
     third : sum M (λ p. W p * e3 n (b p)) ≡ sum n (λ k. sum k (λ j. sum j (λ i. bit x i * bit x j * bit x k * thirdMoment i j k)))
     unfolding b thirdMoment
     third =
-        sum-ext M (λ p. W p * e3 n (b p)) (λ p. W p * sum n (λ k. sum k (λ j. sum j (λ i. b p i * b p j * b p k)))) (λ p l. ap (λ (s : ℕ). W p * s) (e3-nest n (b p)))
+        sum-ext M (λ p. W p * e3 n (b p)) (λ p. W p * sum n (λ k. sum k (λ j. sum j (λ i. b p i * b p j * b p k))))
+        (λ p l. ap (λ (s : ℕ). W p * s) (e3-nest n (b p)))
         ∙ pull n (λ p k. sum k (λ j. sum j (λ i. b p i * b p j * b p k)))
-        ∙ sum-ext n (λ k. sum M (λ p. W p * sum k (λ j. sum j (λ i. b p i * b p j * b p k)))) (λ k. sum k (λ j. sum j (λ i. bit x i * bit x j * bit x k * thirdMoment i j k)))
+        ∙ sum-ext n (λ k. sum M (λ p. W p * sum k (λ j. sum j (λ i. b p i * b p j * b p k))))
+        (λ k. sum k (λ j. sum j (λ i. bit x i * bit x j * bit x k * thirdMoment i j k)))
         (λ k q. pull k (λ p j. sum j (λ i. b p i * b p j * b p k))
-        ∙ sum-ext k (λ j. sum M (λ p. W p * sum j (λ i. b p i * b p j * b p k))) (λ j. sum j (λ i. bit x i * bit x j * bit x k * thirdMoment i j k))
+        ∙ sum-ext k (λ j. sum M (λ p. W p * sum j (λ i. b p i * b p j * b p k)))
+        (λ j. sum j (λ i. bit x i * bit x j * bit x k * thirdMoment i j k))
         (λ j l. pull j (λ p i. b p i * b p j * b p k)
         ∙ sum-ext j (λ i. sum M (λ p. W p * (b p i * b p j * b p k))) (λ i. bit x i * bit x j * bit x k * thirdMoment i j k)
-        (λ i h. sum-ext M (λ p. W p * (b p i * b p j * b p k)) (λ p. bit x i * bit x j * bit x k * (W p * (bit p i * bit p j * bit p k))) (λ p g. omega arith)
+        (λ i h. sum-ext M (λ p. W p * (b p i * b p j * b p k)) (λ p. bit x i * bit x j * bit x k * (W p * (bit p i * bit p j * bit p k)))
+        (λ p g. omega arith)
         ∙ sum-scale M (bit x i * bit x j * bit x k) (λ p. W p * (bit p i * bit p j * bit p k)))))
 
     pub parities-by-moments : parities n x % 8
-        ≡ (sum n (λ i. bit x i * firstMoment i) + 6 * sum n (λ j. sum j (λ i. bit x i * bit x j * secondMoment i j)) + 4 * sum n (λ k. sum k (λ j. sum j (λ i. bit x i * bit x j * bit x k * thirdMoment i j k)))) % 8
+        ≡ (sum n (λ i. bit x i * firstMoment i) + 6 * sum n (λ j. sum j (λ i. bit x i * bit x j * secondMoment i j))
+        + 4 * sum n (λ k. sum k (λ j. sum j (λ i. bit x i * bit x j * bit x k * thirdMoment i j k)))) % 8
     unfolding parities parity b
     parities-by-moments =
         sum-mod 8 M (λ p. W p * parity n p x) (λ p. W p * sum n (b p) + 6 * (W p * e2 n (b p)) + 4 * (W p * e3 n (b p)))

@@ -1,4 +1,5 @@
--- One place of a list gathers others: the numbers at the places of a mask are xored into place t. What that does to every combination, and that it undoes itself.
+-- One place of a list gathers others: the numbers at the places of a mask are xored into place t.
+-- What that does to every combination, and that it undoes itself.
 use mathlib.Core.List.{List}
 use mathlib.Core.Path.{ap, ap₂, sym, _∙_, _≡_}
 use Prim.Native.Nat.{_%_, _<_, _^_, suc, zero, ℕ}
@@ -13,7 +14,8 @@ use Rattle.gf2.specs.Bit.{bit}
 use Rattle.gf2.specs.Selection.{combine}
 
 -- lists that agree below k have the same combinations of places below k
-pub combine-agree : (k s : ℕ) (xs ys : List ℕ) → ((i : ℕ) → i < k → getD xs i 0 ≡ getD ys i 0) → combine (s % 2 ^ k) xs ≡ combine (s % 2 ^ k) ys
+pub combine-agree : (k s : ℕ) (xs ys : List ℕ) → ((i : ℕ) → i < k → getD xs i 0 ≡ getD ys i 0)
+    → combine (s % 2 ^ k) xs ≡ combine (s % 2 ^ k) ys
 combine-agree zero s xs ys h = combine-first s xs ∙ sym (combine-first s ys)
 combine-agree (suc k) s xs ys h =
     rw (combine-next s k xs, combine-next s k ys, combine-agree k s xs ys (λ i l. h i (omega arith)), h k (omega arith))

@@ -57,7 +57,8 @@ unfolding trailingZeros
 bit-lowest zero p ne l = absurd (omega arith)
 bit-lowest (suc k) p ne l = go (p % 2) refl (omega arith) (bit-lowest k (p / 2))
   where
-    go : (c : ℕ) → p % 2 ≡ c → c < 2 → (p / 2 ≢ 0 → p / 2 < 2 ^ k → bit (p / 2) (trailingZeros k (p / 2)) ≡ 1) → bit p (under c (trailingZeros k (p / 2))) ≡ 1
+    go : (c : ℕ) → p % 2 ≡ c → c < 2 → (p / 2 ≢ 0 → p / 2 < 2 ^ k → bit (p / 2) (trailingZeros k (p / 2)) ≡ 1)
+        → bit p (under c (trailingZeros k (p / 2))) ≡ 1
     go zero e h r = bit-suc p (trailingZeros k (p / 2)) ∙ r (omega arith) (omega arith)
     go (suc zero) e h r = bit-zero p ∙ e
     go (suc (suc c)) e h r = absurd (omega arith)

@@ -29,4 +29,5 @@ even-mul a s h = mul-cong 2 a s 0 h ∙ rw mul-zero
 
 -- congruent, by quotients that are written: one linear equation is left
 pub cong-by : (m s t x y : ℕ) → x + s * m ≡ y + t * m → x % m ≡ y % m
-cong-by m s t x y e = sym (mod-by m s x (x + s * m) (add-comm x (s * m))) ∙ ap (λ (z : ℕ). z % m) e ∙ mod-by m t y (y + t * m) (add-comm y (t * m))
+cong-by m s t x y e =
+    sym (mod-by m s x (x + s * m) (add-comm x (s * m))) ∙ ap (λ (z : ℕ). z % m) e ∙ mod-by m t y (y + t * m) (add-comm y (t * m))

@@ -29,7 +29,8 @@ sum-stop a b f l h =
     apart a b l = omega arith
 
 -- termwise below, and by two at two places
-sum-gap : (m a b : ℕ) (f g : ℕ → ℕ) → a < m → b < m → a ≢ b → ((p : ℕ) → p < m → f p ≤ g p) → f a + 2 ≤ g a → f b + 2 ≤ g b → sum m f + 4 ≤ sum m g
+sum-gap : (m a b : ℕ) (f g : ℕ → ℕ) → a < m → b < m → a ≢ b → ((p : ℕ) → p < m → f p ≤ g p) → f a + 2 ≤ g a → f b + 2 ≤ g b
+    → sum m f + 4 ≤ sum m g
 sum-gap m a b f g ha hb ne h la lb =
     omega (
       arith,
@@ -63,6 +64,7 @@ pairs-drop k z a m m′ hz nz ha le strict =
       arith,
       twice k z m hz,
       twice k z m′ hz,
-      sum-gap (2 ^ k) a b (λ p. m′ p + m′ (bitXor p z)) (λ p. m p + m (bitXor p z)) ha (xor-lt k a z ha hz) (λ e. xor-nonzero a z nz (sym e)) le strict
+      sum-gap (2 ^ k) a b (λ p. m′ p + m′ (bitXor p z)) (λ p. m p + m (bitXor p z)) ha (xor-lt k a z ha hz)
+          (λ e. xor-nonzero a z nz (sym e)) le strict
           (rw back (omega arith)),
     )

@@ -61,7 +61,8 @@ combine-scale zero q ys h = rw (zero-mul, zero-mul) (combine-none ys)
 combine-scale (suc zero) q ys h = rw (one-mul, one-mul)
 combine-scale (suc (suc c)) q ys h = absurd (omega arith)
 
-pub combine-set : (s b v : ℕ) (ys : List ℕ) → b < length ys → combine s (set ys b (bitXor (getD ys b 0) v)) ≡ bitXor (combine s ys) (bit s b * v)
+pub combine-set : (s b v : ℕ) (ys : List ℕ) → b < length ys
+    → combine s (set ys b (bitXor (getD ys b 0) v)) ≡ bitXor (combine s ys) (bit s b * v)
 unfolding combine
 combine-set s b v [] h = absurd (omega arith)
 combine-set s zero v (y ∷ ys) h =
@@ -73,9 +74,11 @@ combine-set s (suc b) v (y ∷ ys) h =
 abbrev pub carry : ℕ → ℕ → ℕ → ℕ
 carry t q s = bitXor s (bit s t * q)
 
-pub combine-add : (s t q : ℕ) (ys : List ℕ) → t < length ys → combine s (set ys t (bitXor (getD ys t 0) (combine q ys))) ≡ combine (carry t q s) ys
+pub combine-add : (s t q : ℕ) (ys : List ℕ) → t < length ys
+    → combine s (set ys t (bitXor (getD ys t 0) (combine q ys))) ≡ combine (carry t q s) ys
 combine-add s t q ys h =
-    combine-set s t (combine q ys) ys h ∙ sym (combine-xor s (bit s t * q) ys ∙ ap (bitXor (combine s ys)) (combine-scale (bit s t) q ys (bit-lt s t)))
+    combine-set s t (combine q ys) ys h
+    ∙ sym (combine-xor s (bit s t * q) ys ∙ ap (bitXor (combine s ys)) (combine-scale (bit s t) q ys (bit-lt s t)))
 
 module _ (t q : ℕ) (off : bit q t ≡ 0) where
   pub carry-kept : (s : ℕ) → bit (carry t q s) t ≡ bit s t
@@ -103,7 +106,8 @@ mod-next s k =
 pub combine-next : (s k : ℕ) (ys : List ℕ) → combine (s % 2 ^ suc k) ys ≡ bitXor (combine (s % 2 ^ k) ys) (bit s k * getD ys k 0)
 combine-next s k ys =
     ap (λ (m : ℕ). combine m ys) (mod-next s k) ∙ combine-xor (s % 2 ^ k) (bit s k * 2 ^ k) ys
-    ∙ ap (bitXor (combine (s % 2 ^ k) ys)) (combine-scale (bit s k) (2 ^ k) ys (bit-lt s k) ∙ ap (λ (y : ℕ). bit s k * y) (combine-one k ys))
+    ∙ ap (bitXor (combine (s % 2 ^ k) ys))
+    (combine-scale (bit s k) (2 ^ k) ys (bit-lt s k) ∙ ap (λ (y : ℕ). bit s k * y) (combine-one k ys))
 
 pub combine-first : (s : ℕ) (ys : List ℕ) → combine (s % 2 ^ 0) ys ≡ 0
 combine-first s ys = rw (mod-one s) (combine-none ys)
@@ -111,7 +115,8 @@ combine-first s ys = rw (mod-one s) (combine-none ys)
 -- where place i holds 2 ^ i, a combination is its mask
 pub combine-units-mod : (k s : ℕ) (ys : List ℕ) → ((i : ℕ) → i < k → getD ys i 0 ≡ 2 ^ i) → combine (s % 2 ^ k) ys ≡ s % 2 ^ k
 combine-units-mod zero s ys h = combine-first s ys ∙ sym (mod-one s)
-combine-units-mod (suc k) s ys h = rw (combine-next s k ys, combine-units-mod k s ys (λ i l. h i (omega arith)), h k (omega arith), mod-next s k)
+combine-units-mod (suc k) s ys h =
+    rw (combine-next s k ys, combine-units-mod k s ys (λ i l. h i (omega arith)), h k (omega arith), mod-next s k)
 
 pub combine-units : (n s : ℕ) (ys : List ℕ) → s < 2 ^ n → ((i : ℕ) → i < n → getD ys i 0 ≡ 2 ^ i) → combine s ys ≡ s
 combine-units n s ys l h = let e : s % 2 ^ n ≡ s = mod-eq-of-lt l in rw e at (combine-units-mod n s ys h)

@@ -62,7 +62,8 @@ sum-append a (suc b) f = rw (add-suc a b) (omega (arith, sum-append a b f))
 pub sum-mod : (m k : ℕ) (f g : ℕ → ℕ) → ((i : ℕ) → i < k → f i % m ≡ g i % m) → sum k f % m ≡ sum k g % m
 unfolding sum
 sum-mod m zero f g h = refl
-sum-mod m (suc k) f g h = rw (add-mod (sum k f) (f k) m, add-mod (sum k g) (g k) m, sum-mod m k f g (λ i l. h i (omega arith)), h k (le-refl _))
+sum-mod m (suc k) f g h =
+    rw (add-mod (sum k f) (f k) m, add-mod (sum k g) (g k) m, sum-mod m k f g (λ i l. h i (omega arith)), h k (le-refl _))
 
 -- two functions that differ at q only
 pub sum-update : (m q : ℕ) (f g : ℕ → ℕ) → q < m → ((p : ℕ) → p < m → p ≢ q → f p ≡ g p) → sum m g + f q ≡ sum m f + g q
@@ -94,7 +95,8 @@ sum-xor (suc k) z f h = go (decLt z (2 ^ k)) (λ w l g. sum-xor k w g l)
     P : ℕ
     P = 2 ^ k
 
-    go : Dec (z < P) → ((w : ℕ) → w < P → (g : ℕ → ℕ) → sum P (λ p. g (bitXor p w)) ≡ sum P g) → sum (2 ^ suc k) (λ p. f (bitXor p z)) ≡ sum (2 ^ suc k) f
+    go : Dec (z < P) → ((w : ℕ) → w < P → (g : ℕ → ℕ) → sum P (λ p. g (bitXor p w)) ≡ sum P g)
+        → sum (2 ^ suc k) (λ p. f (bitXor p z)) ≡ sum (2 ^ suc k) f
     go (yes l) ih =
         omega (
           arith,

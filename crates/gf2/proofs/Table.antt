@@ -5,7 +5,7 @@ use Prim.Native.Nat.{_%_, _*_, _+_, _/_, _<_, suc, zero, ℕ, _≤_}
 use native.Mathlib.Decide.{ℕ-discrete}
 use native.Mathlib.Nat.{div-add-mod', mod-add-mod}
 use native.Mathlib.Omega.{arith}
-use lib.ListN.{getD, length, length-set, set}
+use lib.ListN.{getD, length, length-set, replicate, set}
 use lib.Seq.{ext-getD, getD-set-other, getD-set-same}
 use Rattle.gf2.proofs.Modular.{mod-by}
 use Rattle.gf2.proofs.Sum.{sum-ext, sum-update}
@@ -15,7 +15,8 @@ use Rattle.gf2.specs.Table.{addAt, tabulate, weightedSum}
 close : (m s′ s a v t : ℕ) → s′ + a * t ≡ s + (a + v) % m * t → s′ % m ≡ (s + v * t) % m
 close m s′ s a v t e = sym (mod-by m ((a + v) / m * t) s′ (s + v * t) (omega (arith, ap (λ (y : ℕ). y * t) (div-add-mod' (a + v) m))))
 
-pub weightedSum-addAt : (m : ℕ) (w : List ℕ) (c : ℕ → ℕ) (q v : ℕ) → q < length w → weightedSum (addAt m w q v) c % m ≡ (weightedSum w c + v * c q) % m
+pub weightedSum-addAt : (m : ℕ) (w : List ℕ) (c : ℕ → ℕ) (q v : ℕ) → q < length w
+    → weightedSum (addAt m w q v) c % m ≡ (weightedSum w c + v * c q) % m
 unfolding weightedSum
 weightedSum-addAt m w c q v h =
     let u : ℕ = (getD w q 0 + v) % m in
@@ -38,6 +39,12 @@ unfolding tabulate
 getD-tabulate zero f i h = absurd (omega arith)
 getD-tabulate (suc k) f zero h = refl
 getD-tabulate (suc k) f (suc i) h = getD-tabulate k (λ j. f (suc j)) i (omega arith)
+
+-- a list of zeros
+pub getD-zeros : (k i : ℕ) → _≡_ {A = ℕ} (getD (replicate k 0) i 0) 0
+getD-zeros zero i = refl
+getD-zeros (suc k) zero = refl
+getD-zeros (suc k) (suc i) = getD-zeros k i
 
 -- ---- a table that a loop fills from the front
 

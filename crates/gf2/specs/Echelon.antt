@@ -1,4 +1,5 @@
--- An xor basis ("echelon") in tables of N slots: slot s holds 0, or a number whose leading bit is s. Beside it stand a mask of slots and the column that opened it.
+-- An xor basis ("echelon") in tables of N slots: slot s holds 0, or a number whose leading bit is s.
+-- Beside it stand a mask of slots and the column that opened it.
 use mathlib.Core.List.{List, map}
 use mathlib.Core.Logic.{_≢_, _⊎_}
 use mathlib.Core.Path.{_≡_}

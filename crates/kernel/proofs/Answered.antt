@@ -21,7 +21,7 @@ use Rattle.moves.proofs.Sets.{in-occ, occ, occ-in}
 use Rattle.moves.specs.Kappa.{kappa}
 use Rattle.moves.specs.Log.{LegalCells, asCells}
 use Rattle.moves.specs.Move.{Member}
-use Rattle.moves.specs.Pair.{Other, spelled}
+use Rattle.moves.specs.Pair.{Other, namedSet}
 use Rattle.moves.specs.Sets.{In}
 use Rattle.kernel.specs.Answers.{Asked, AskedBoth, Bars, Built, Neither, Offers, Spells}
 use Rattle.kernel.specs.Members.{Members, Pair, Rest, marksOf}
@@ -31,7 +31,7 @@ use Rattle.kernel.specs.declared.Offered.the-variants.{Nothing, Separati
 -- ---- one column
 
 module _ (z t a v : ℕ) (vec mask : List ℕ) (is : v ≡ kappa maxWires z t a) where
-  pub spells-by : (member cells : List ℕ) (m : ℕ) → Reached vec mask v 0 m → cells ≡ asCells maxMembers z (spelled parities member m productBits a)
+  pub spells-by : (member cells : List ℕ) (m : ℕ) → Reached vec mask v 0 m → cells ≡ asCells maxMembers z (namedSet parities member m productBits a)
       → Spells z t a vec mask member cells
   spells-by member cells m r e = record { m = m; reached = subst (λ (x : ℕ). Reached vec mask x 0 m) is r; is = e }
 
@@ -96,7 +96,7 @@ module _ {ys : List ℕ} {a b t : ℕ} (p : Pair ys a b) (low : t ≡ trailingZe
   legal cells (inl s) =
       record {
         z = bitXor a b;
-        Y = spelled parities member (s .m) productBits a;
+        Y = namedSet parities member (s .m) productBits a;
         is = s .is;
         legal =
             found parities maxWires maxMembers (le-refl _) (marksOf ys) (p .members .sound) a b (bitXor a b) t (in-member ys (p .members) a (p .a-in)) (in-member ys (p .members) b (p .b-in)) refl (wire .0) (wire .1)
@@ -105,7 +105,7 @@ module _ {ys : List ℕ} {a b t : ℕ} (p : Pair ys a b) (low : t ≡ trailingZe
   legal cells (inr s) =
       record {
         z = bitXor a b;
-        Y = spelled parities member (s .m) productBits b;
+        Y = namedSet parities member (s .m) productBits b;
         is = s .is;
         legal =
             found parities maxWires maxMembers (le-refl _) (marksOf ys) (p .members .sound) b a (bitXor a b) t (in-member ys (p .members) b (p .b-in)) (in-member ys (p .members) a (p .a-in)) (xor-comm a b) (wire .0)

@@ -8,7 +8,7 @@ use Rattle.circuit.specs.Limits.{maxMembers, maxWires, parities, productBits}
 use Rattle.gf2.specs.Echelon.{Basis, Reached, Stopped}
 use Rattle.moves.specs.Kappa.{kappa}
 use Rattle.moves.specs.Log.{LegalCells, asCells}
-use Rattle.moves.specs.Pair.{Offer, spelled}
+use Rattle.moves.specs.Pair.{Offer, namedSet}
 use Rattle.kernel.specs.Members.{Rest, marksOf}
 use Rattle.kernel.specs.declared.Offered.{Offered}
 use Rattle.kernel.specs.declared.Offered.the-variants.{Nothing, Separating}
@@ -27,7 +27,7 @@ Built k ys a b z t vec mask member = Basis productBits (Rest k ys a b) (kappa ma
 pub record Spells (z t a : ℕ) (vec mask member cells : List ℕ) : Type 0 where
   pub m : ℕ
   pub reached : Reached vec mask (kappa maxWires z t a) 0 m
-  pub is : cells ≡ asCells maxMembers z (spelled parities member m productBits a)
+  pub is : cells ≡ asCells maxMembers z (namedSet parities member m productBits a)
 
 -- the column of a was stopped
 pub record Bars (z t a : ℕ) (vec mask : List ℕ) : Type 0 where

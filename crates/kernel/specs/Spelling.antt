@@ -7,12 +7,12 @@ use Rattle.circuit.specs.Limits.{maxMembers, parities, productBits, tableBytes}
 use Rattle.gf2.specs.Bit.{bit}
 use Rattle.gf2.specs.Sum.{sum}
 use Rattle.moves.specs.Log.{asCells}
-use Rattle.moves.specs.Pair.{spell}
+use Rattle.moves.specs.Pair.{named}
 use Rattle.moves.specs.Sets.{listed}
 
 -- the marks of the members of the slots that m names, toggled; each of them has a mark
 pub record SpelledMarks (m : ℕ) (member set : List ℕ) : Type 0 where
-  pub is : set ≡ spell parities member m productBits
+  pub is : set ≡ named parities member m productBits
   pub room : (s : ℕ) → s < productBits → bit m s ≡ 1 → getD member s 0 < parities
 
 -- marks of a set that is small enough for a move

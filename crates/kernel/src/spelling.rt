@@ -5,7 +5,7 @@ ghost use lib.ListN.{length};
 ghost use Rattle.circuit.specs.Limits.{maxMembers, moveCells, parities, productBits};
 ghost use Rattle.moves.specs.CarryOut.{flip};
 ghost use Rattle.moves.specs.Log.{asCells};
-ghost use Rattle.moves.specs.Pair.{spelled};
+ghost use Rattle.moves.specs.Pair.{namedSet};
 ghost use Rattle.kernel.specs.Spelling.{Few, SpelledMarks, listedCells};
 use circuit::copy_into;
 use circuit::limits::MOVE_CELLS;
@@ -17,7 +17,7 @@ use circuit::limits::TABLE_BYTES;
 // Writes the move of z with the set that the mask names and a.
 pub fn write_move(z: Parity, a: Parity, m: u64, member: &[Parity; PRODUCT_BITS], cells: &mut [u8])
     requires { ⌜ length (now cells) ≡ moveCells ⌝ }
-    ensures { λ _. ⌜ now (cells .exit) ≡ asCells maxMembers z (spelled parities (now (member .entry)) m productBits a) ⌝ }
+    ensures { λ _. ⌜ now (cells .exit) ≡ asCells maxMembers z (namedSet parities (now (member .entry)) m productBits a) ⌝ }
 {
     let mut set = spell(m, member);
     toggle(&mut set, a);

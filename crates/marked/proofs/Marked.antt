@@ -16,7 +16,9 @@ use Rattle.marked.proofs.Testing.{all-claimed, allC, allHold, allL, all
 use Rattle.marked.specs.Cases.{AllClaimed, cases, onesTo, rowsWith, weightsWith}
 
 computed : T (allHold cases)
-unfolding cases allHold holds sameCells isRefusal weightsWith rowsWith readFrom readKind kindOf firstRows noWeights tabulate tGates isT delta oddSet members sum firstFault gateFault onesTo allL allQ allC l q c weightedSum bit every any combine isLegal flipPairs flipIf carryOut xorAll sumOver
+unfolding cases allHold holds isRefusal onesTo rowsWith weightsWith allL allQ allC sameCells firstFault gateFault
+    readFrom readKind kindOf firstRows noWeights tGates isT oddSet members l q c isLegal every any carryOut flipPairs flipIf
+    tabulate weightedSum combine sum sumOver xorAll delta bit
 computed = tt
 
 pub marked : AllClaimed cases

@@ -10,8 +10,9 @@ use Rattle.circuit.specs.Gate.{tGates}
 use Rattle.circuit.specs.Limits.{maxMembers, maxWires}
 use Rattle.circuit.specs.OddSet.{members, oddSet}
 use Rattle.circuit.specs.Read.{read}
+use Rattle.gf2.proofs.Brute.{T-both}
 use Rattle.gf2.specs.Selection.{combine}
-use Rattle.moves.proofs.Deciding.{T-both, every-at, legal-decided, same-decided}
+use Rattle.moves.proofs.Deciding.{every-at, legal-decided, same-decided}
 use Rattle.moves.specs.CarryOut.{carryOut}
 use Rattle.moves.specs.Decide.{every, isLegal, sameCells}
 use Rattle.phase.specs.Coefficients.{c, l, q}
@@ -59,7 +60,8 @@ c-all n w d t i j k h g f =
 unfoldable pub holds : Case → Bool
 holds (reads n gs es rows t odd) =
     sameCells (read maxWires n gs .weights) (weightsWith es) &&
-    (sameCells (read maxWires n gs .rows) (rowsWith rows) && (eqb (tGates gs) t && eqb (members (oddSet (read maxWires n gs .weights))) odd))
+    (sameCells (read maxWires n gs .rows) (rowsWith rows)
+    && (eqb (tGates gs) t && eqb (members (oddSet (read maxWires n gs .weights))) odd))
 holds (refuses n gs number place) = isRefusal (firstFault n 0 gs) number place
 holds (coefficients n es a b d) = allL n (weightsWith es) a && (allQ n (weightsWith es) b && allC n (weightsWith es) d)
 holds (leaves n es z Y left) = isLegal maxMembers n (weightsWith es) z Y && sameCells (carryOut (weightsWith es) z Y) (weightsWith left)
@@ -70,10 +72,15 @@ unfolding holds
 claimed (reads n gs es rows t odd) h =
     let w : List ℕ = read maxWires n gs .weights in
     let s : List ℕ = read maxWires n gs .rows in
-    let a = T-both (sameCells w (weightsWith es)) (sameCells s (rowsWith rows) && (eqb (tGates gs) t && eqb (members (oddSet w)) odd)) .0 h in
+    let a =
+    T-both (sameCells w (weightsWith es)) (sameCells s (rowsWith rows) && (eqb (tGates gs) t && eqb (members (oddSet w)) odd)) .0 h in
     let b = T-both (sameCells s (rowsWith rows)) (eqb (tGates gs) t && eqb (members (oddSet w)) odd) .0 (a .1) in
-    let d = T-both (eqb (tGates gs) t) (eqb (members (oddSet w)) odd) .0 (b .1) in
-    (same-decided w (weightsWith es) .0 (a .0), same-decided s (rowsWith rows) .0 (b .0), eqb→eq (tGates gs) t (d .0), eqb→eq (members (oddSet w)) odd (d .1))
+    let d = T-both (eqb (tGates gs) t) (eqb (members (oddSet w)) odd) .0 (b .1) in (
+      same-decided w (weightsWith es) .0 (a .0),
+      same-decided s (rowsWith rows) .0 (b .0),
+      eqb→eq (tGates gs) t (d .0),
+      eqb→eq (members (oddSet w)) odd (d .1),
+    )
 claimed (refuses n gs number place) h = refusal (firstFault n 0 gs) number place h
 claimed (coefficients n es a b d) h =
     let w : List ℕ = weightsWith es in

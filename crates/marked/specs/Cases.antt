@@ -48,7 +48,8 @@ pub record AllCoefficients (n : ℕ) (w : List ℕ) (a b d : ℕ) : Type 0 where
 
 abbrev pub Claim : Case → Type 0
 Claim (reads n gs es rows t odd) =
-    (read maxWires n gs .weights ≡ weightsWith es) × (read maxWires n gs .rows ≡ rowsWith rows) × (tGates gs ≡ t) × (members (oddSet (read maxWires n gs .weights)) ≡ odd)
+    (read maxWires n gs .weights ≡ weightsWith es) × (read maxWires n gs .rows ≡ rowsWith rows) × (tGates gs ≡ t)
+    × (members (oddSet (read maxWires n gs .weights)) ≡ odd)
 Claim (refuses n gs number place) = firstFault n 0 gs ≡ Refused number place
 Claim (coefficients n es a b d) = AllCoefficients n (weightsWith es) a b d
 Claim (leaves n es z Y left) = Legal maxMembers n (weightsWith es) z Y × (carryOut (weightsWith es) z Y ≡ weightsWith left)

@@ -1,4 +1,5 @@
--- Where no move is legal, at most n(n+1)/2 + 1 members are left: of more members, n(n+1)/2 + 1 have product entries that depend on each other, and one is left over for b.
+-- Where no move is legal, at most n(n+1)/2 + 1 members are left:
+-- of more members, n(n+1)/2 + 1 have product entries that depend on each other, and one is left over for b.
 use mathlib.Core.List.{List, [], _++_, _∷_, map}
 use mathlib.Core.Logic.{_≢_}
 use mathlib.Core.Path.{_∙_, _≡_, ap, refl, sym}
@@ -22,7 +23,7 @@ use Rattle.moves.proofs.Even.{Even, even-add, even-by, even-scale}
 use Rattle.moves.proofs.Keep.{member-lt}
 use Rattle.moves.proofs.Products.{product-bit, product-lt}
 use Rattle.moves.proofs.Sets.{Rising, ascending, in-occ, listed-le, listed-length, listed-rising, occ, occ-below, rising-weaken}
-use Rattle.moves.specs.Move.{Balanced, Legal, Member, triple}
+use Rattle.moves.specs.Move.{Balanced, Legal, Member, NoneLegal, triple}
 use Rattle.moves.specs.Product.{product, tri}
 use Rattle.moves.specs.Sets.{In, listed, only}
 
@@ -39,10 +40,12 @@ spread a b c p q r = twice _ _ (omega arith)
     twice : (x y : ℕ) → x ≡ y → x % 2 % 2 ≡ y % 2
     twice x y e = omega arith
 
-products-balanced : (n z : ℕ) (Y : List ℕ) → Below (2 ^ n) Y → ((i j : ℕ) → i < n → j < n → Even (λ y. bit y i * bit y j) Y) → Balanced n z Y
+products-balanced : (n z : ℕ) (Y : List ℕ) → Below (2 ^ n) Y → ((i j : ℕ) → i < n → j < n → Even (λ y. bit y i * bit y j) Y)
+    → Balanced n z Y
 products-balanced n z Y h e =
     record {
-      zero-xor = xorAll-zero n Y h (λ i l. even-by (λ y. bit y i) (λ y. bit y i * bit y i) Y (λ y. square (bit y i) (bit-lt y i)) (e i i l l));
+      zero-xor =
+          xorAll-zero n Y h (λ i l. even-by (λ y. bit y i) (λ y. bit y i * bit y i) Y (λ y. square (bit y i) (bit-lt y i)) (e i i l l));
       triples =
           λ i j k l g f.
           let li : i < n = omega arith in
@@ -67,7 +70,8 @@ products-even n Y e i j li lj = go (decLt j i)
         even-by (λ y. bit y i * bit y j) (λ y. bit (product n y) (tri i + j)) Y
         (λ y. ap (λ (x : ℕ). x % 2) (mul-comm (bit y i) (bit y j) ∙ sym (product-bit n y j i (omega arith) li))) (entry (tri i + j))
     go (no l) =
-        even-by (λ y. bit y i * bit y j) (λ y. bit (product n y) (tri j + i)) Y (λ y. ap (λ (x : ℕ). x % 2) (sym (product-bit n y i j (omega arith) lj))) (entry (tri j + i))
+        even-by (λ y. bit y i * bit y j) (λ y. bit (product n y) (tri j + i)) Y
+        (λ y. ap (λ (x : ℕ). x % 2) (sym (product-bit n y i j (omega arith) lj))) (entry (tri j + i))
 
 -- ---- the numbers of a list whose places a mask names
 
@@ -101,7 +105,8 @@ chosen-rising lo s (y ∷ ys) r = first-rising (s % 2) lo y (chosen (s / 2) ys) 
 chosen-sum : (s : ℕ) (c : ℕ → ℕ) (ys : List ℕ) → sumOver c (chosen s ys) ≤ sumOver c ys
 unfolding chosen sumOver
 chosen-sum s c [] = zero-le
-chosen-sum s c (y ∷ ys) = rw (first-sum (s % 2) c y (chosen (s / 2) ys) (omega arith)) (less (s % 2) (c y) _ _ (omega arith) (chosen-sum (s / 2) c ys))
+chosen-sum s c (y ∷ ys) =
+    rw (first-sum (s % 2) c y (chosen (s / 2) ys) (omega arith)) (less (s % 2) (c y) _ _ (omega arith) (chosen-sum (s / 2) c ys))
   where
     less : (b x t u : ℕ) → b < 2 → t ≤ u → b * x + t ≤ x + u
     less zero x t u h l = omega arith
@@ -120,9 +125,11 @@ half-below k s h = omega arith
 chosen-some : (s : ℕ) (ys : List ℕ) → s ≢ 0 → s < 2 ^ length ys → 1 ≤ sumOver (λ y. 1) (chosen s ys)
 unfolding chosen
 chosen-some s [] ne l = absurd (omega arith)
-chosen-some s (y ∷ ys) ne l = rw (first-sum (s % 2) (λ y. 1) y (chosen (s / 2) ys) (omega arith)) (go (decLt 0 (s % 2)) (chosen-some (s / 2) ys))
+chosen-some s (y ∷ ys) ne l =
+    rw (first-sum (s % 2) (λ y. 1) y (chosen (s / 2) ys) (omega arith)) (go (decLt 0 (s % 2)) (chosen-some (s / 2) ys))
   where
-    go : Dec (0 < s % 2) → (s / 2 ≢ 0 → s / 2 < 2 ^ length ys → 1 ≤ sumOver (λ y. 1) (chosen (s / 2) ys)) → 1 ≤ s % 2 * 1 + sumOver (λ y. 1) (chosen (s / 2) ys)
+    go : Dec (0 < s % 2) → (s / 2 ≢ 0 → s / 2 < 2 ^ length ys → 1 ≤ sumOver (λ y. 1) (chosen (s / 2) ys))
+        → 1 ≤ s % 2 * 1 + sumOver (λ y. 1) (chosen (s / 2) ys)
     go (yes h) r = omega arith
     go (no h) r = omega (arith, r (omega arith) (half-below (length ys) s l))
 
@@ -190,11 +197,12 @@ module _ (size n most : ℕ) (marks : List ℕ) (sound : SoundMarks size n marks
       let ys : List ℕ = take (suc (tri n)) M in
       let long : length ys ≡ suc (tri n) = length-take-le (suc (tri n)) M (omega arith) in
       let t = dependent (tri n) (map (product n) ys) (below-map (product n) (2 ^ tri n) ys (product-lt n)) in
-      found b ys (omega (arith, in-occ b (b ∷ M) (0, suc-le-suc zero-le, refl), o b, sound .bits b)) (take-rising (suc b) (suc (tri n)) M (r .1))
+      found b ys (omega (arith, in-occ b (b ∷ M) (0, suc-le-suc zero-le, refl), o b, sound .bits b))
+      (take-rising (suc b) (suc (tri n)) M (r .1))
       (λ p. omega (arith, take-sum (delta p) (suc (tri n)) M, sumOver-cons (delta p) b M, o p)) (omega arith)
       (t .0) (t .1) (rw long (t .2)) (t .3)
 
-  pub bound : ((z : ℕ) (Y : List ℕ) → Legal most n marks z Y → ⊥) → members marks ≤ tri n + 1
+  pub bound : NoneLegal most n marks → members marks ≤ tri n + 1
   unfolding members
   bound none = go (decLt (tri n + 1) (members marks))
     where
@@ -204,6 +212,7 @@ module _ (size n most : ℕ) (marks : List ℕ) (sound : SoundMarks size n marks
       go : Dec (tri n + 1 < members marks) → members marks ≤ tri n + 1
       go (yes l) =
           let m : Movable most n marks =
-          crowded (listed (length marks) f) (listed-rising (length marks) f) (listed-le f (sound .bits) (length marks)) (rw (listed-length f (sound .bits) (length marks)) l) in
+          crowded (listed (length marks) f) (listed-rising (length marks) f) (listed-le f (sound .bits) (length marks))
+          (rw (listed-length f (sound .bits) (length marks)) l) in
           absurd (none (m .z) (m .Y) (m .legal))
       go (no l) = omega arith

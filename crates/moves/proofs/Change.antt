@@ -29,7 +29,8 @@ chain d₂ d₁ d a b r h₂ h₁ = add-cong 2 d₂ (d₁ + 1 * b) r r h₂ refl
     step : (d₁ d a b r : ℕ) → d₁ % 2 ≡ (d + 1 * a) % 2 → (d₁ + 1 * b + r) % 2 ≡ (d + (a + b + r)) % 2
     step d₁ d a b r h = omega arith
 
-pub sum-pairs : (w : List ℕ) (z : ℕ) (Y : List ℕ) (c : ℕ → ℕ) → Below (length w) Y → ((i : ℕ) → i < length Y → bitXor (getD Y i 0) z < length w)
+pub sum-pairs : (w : List ℕ) (z : ℕ) (Y : List ℕ) (c : ℕ → ℕ) → Below (length w) Y
+    → ((i : ℕ) → i < length Y → bitXor (getD Y i 0) z < length w)
     → weightedSum (flipPairs w z Y) c % 2 ≡ (weightedSum w c + sumOver (λ y. c y + c (bitXor y z)) Y) % 2
 unfolding flipPairs
 sum-pairs w z [] c h k = rw (sumOver-nil (λ y. c y + c (bitXor y z))) (ap (λ (n : ℕ). n % 2) (omega arith))
@@ -43,7 +44,8 @@ sum-pairs w z (y ∷ Y) c h k =
     (weightedSum-addAt 2 w₁ c (bitXor y z) 1 (rw e₁ (k 0 (suc-le-suc zero-le)))) (weightedSum-addAt 2 w c y 1 (h 0 (suc-le-suc zero-le)))
     ∙ ap (λ (n : ℕ). (weightedSum w c + n) % 2) (sym (sumOver-cons (λ y. c y + c (bitXor y z)) y Y))
 
-sum-if : (r : ℕ) (w : List ℕ) (z : ℕ) (c : ℕ → ℕ) → r < 2 → z < length w → weightedSum (flipIf r w z) c % 2 ≡ (weightedSum w c + r * c z) % 2
+sum-if : (r : ℕ) (w : List ℕ) (z : ℕ) (c : ℕ → ℕ) → r < 2 → z < length w
+    → weightedSum (flipIf r w z) c % 2 ≡ (weightedSum w c + r * c z) % 2
 unfolding flipIf
 sum-if zero w z c h l = ap (λ (n : ℕ). n % 2) (omega arith)
 sum-if (suc zero) w z c h l = weightedSum-addAt 2 w c z 1 l
@@ -54,7 +56,8 @@ sum-clear : (w : List ℕ) (c : ℕ → ℕ) → 0 < length w → c 0 ≡ 0 → 
 unfolding weightedSum
 sum-clear w c l e =
     ap (λ (k : ℕ). sum k (λ p. getD (set w 0 0) p 0 * c p)) (length-set w 0 0)
-    ∙ add-eq _ _ _ _ (sum-update (length w) 0 (λ p. getD w p 0 * c p) (λ p. getD (set w 0 0) p 0 * c p) l (λ p k ne. rw (getD-set-other w 0 p 0 0 ne)))
+    ∙ add-eq _ _ _ _
+    (sum-update (length w) 0 (λ p. getD w p 0 * c p) (λ p. getD (set w 0 0) p 0 * c p) l (λ p k ne. rw (getD-set-other w 0 p 0 0 ne)))
     (rw e (omega arith)) (rw e (omega arith))
   where
     add-eq : (a b x y : ℕ) → a + x ≡ b + y → x ≡ 0 → y ≡ 0 → a ≡ b
@@ -85,7 +88,8 @@ sum-carryOut marks z Y c f e =
 sum-at : (w : List ℕ) (p : ℕ) → p < length w → weightedSum w (delta p) ≡ getD w p 0
 unfolding weightedSum
 sum-at w p l =
-    sum-single (length w) p (λ q. getD w q 0 * delta p q) l (λ q k ne. rw (delta-other p q ne) (omega arith)) ∙ rw (delta-same p) (omega arith)
+    sum-single (length w) p (λ q. getD w q 0 * delta p q) l (λ q k ne. rw (delta-other p q ne) (omega arith))
+    ∙ rw (delta-same p) (omega arith)
 
 -- y xor z is p exactly when y is p xor z
 delta-xor : (p z y : ℕ) → delta p (bitXor y z) ≡ delta (bitXor p z) y
@@ -93,7 +97,8 @@ delta-xor p z y = go (ℕ-discrete y (bitXor p z))
   where
     go : Dec (y ≡ bitXor p z) → delta p (bitXor y z) ≡ delta (bitXor p z) y
     go (yes e) = rw (e, xor-cancel p z, delta-same p, delta-same (bitXor p z))
-    go (no n) = delta-other p (bitXor y z) (λ e. n (sym (xor-cancel y z) ∙ ap (λ (x : ℕ). bitXor x z) e)) ∙ sym (delta-other (bitXor p z) y n)
+    go (no n) =
+        delta-other p (bitXor y z) (λ e. n (sym (xor-cancel y z) ∙ ap (λ (x : ℕ). bitXor x z) e)) ∙ sym (delta-other (bitXor p z) y n)
 
 pub mark-carryOut : (marks : List ℕ) (z : ℕ) (Y : List ℕ) (p : ℕ) → Fits marks z Y → getD marks p 0 < 2 → p < length marks → p ≢ 0
     → getD (carryOut marks z Y) p 0 ≡ (getD marks p 0 + (occ p Y + occ (bitXor p z) Y + length Y * delta p z)) % 2
@@ -103,4 +108,5 @@ mark-carryOut marks z Y p f b l ne =
     ∙ sum-carryOut marks z Y (delta p) f (delta-other p 0 (λ e. ne (sym e)))
     ∙ ap (λ (n : ℕ). n % 2)
     (ap₂ (λ (a s : ℕ). a + (s + length Y * delta p z)) (sum-at marks p l)
-    (sumOver-add (delta p) (λ y. delta p (bitXor y z)) Y ∙ ap (λ (s : ℕ). occ p Y + s) (sumOver-ext (λ y. delta p (bitXor y z)) (delta (bitXor p z)) (delta-xor p z) Y)))
+    (sumOver-add (delta p) (λ y. delta p (bitXor y z)) Y
+    ∙ ap (λ (s : ℕ). occ p Y + s) (sumOver-ext (λ y. delta p (bitXor y z)) (delta (bitXor p z)) (delta-xor p z) Y)))

@@ -11,19 +11,17 @@ use lib.Bits.{bitXor, xor-comm}
 use lib.Dec.{T, T-not, eqb, eqb-refl, eqb→eq, leb, leb→le, le→leb, ltb, ltb→lt, lt→ltb, not-T}
 use lib.ListN.{getD, length}
 use Rattle.circuit.specs.Sound.{weight}
+use Rattle.gf2.proofs.Brute.{T-both}
 use Rattle.gf2.proofs.Xor.{xor-cancel}
 use Rattle.gf2.specs.Over.{sumOver, xorAll}
 use Rattle.moves.proofs.Logs.{cells-say}
-use Rattle.moves.specs.Decide.{any, areMembers, every, isAscending, isBalanced, isIn, isLegal, isMember, isMove, isSeparating, sameCells}
+use Rattle.moves.specs.Decide.{any, areMembers, every, isAscending, isBalanced, isIn, isLegal, isMember, isMove, isSeparating}
+use Rattle.moves.specs.Decide.{sameCells}
 use Rattle.moves.specs.Log.{LegalCells, asCells, setOf, zOf}
 use Rattle.moves.specs.Move.{Balanced, Legal, Member, Separates, triple}
 use Rattle.moves.specs.Sets.{Ascending, In}
 
 -- ---- tests
-
-pub T-both : (a b : Bool) → T (a && b) ↔ (T a × T b)
-T-both true b = (λ t. (tt, t), λ t. t .1)
-T-both false b = (λ t. absurd t, λ t. t .0)
 
 T-either : (a b : Bool) → T (a || b) → T a ⊎ T b
 T-either true b t = inl tt
@@ -83,12 +81,14 @@ in-decided y Y = (
 pub ascending-decided : (Y : List ℕ) → T (isAscending Y) ↔ Ascending Y
 ascending-decided Y = (
   λ t i l. ltb→lt (getD Y i 0) (getD Y (suc i) 0) (every-at (length Y - 1) (λ i. ltb (getD Y i 0) (getD Y (suc i) 0)) t i (omega arith)),
-  λ a. at-every (length Y - 1) (λ i. ltb (getD Y i 0) (getD Y (suc i) 0)) (λ i l. lt→ltb (getD Y i 0) (getD Y (suc i) 0) (a i (omega arith))),
+  λ a. at-every (length Y - 1) (λ i. ltb (getD Y i 0) (getD Y (suc i) 0))
+      (λ i l. lt→ltb (getD Y i 0) (getD Y (suc i) 0) (a i (omega arith))),
 )
 
 pub members-decided : (marks Y : List ℕ) → T (areMembers marks Y) ↔ ((y : ℕ) → In y Y → Member marks y)
 members-decided marks Y = (
-  λ t y s. rw (← (s .2)) (eqb→eq (weight marks (getD Y (s .0) 0)) 1 (every-at (length Y) (λ i. isMember marks (getD Y i 0)) t (s .0) (s .1))),
+  λ t y s. rw (← (s .2))
+      (eqb→eq (weight marks (getD Y (s .0) 0)) 1 (every-at (length Y) (λ i. isMember marks (getD Y i 0)) t (s .0) (s .1))),
   λ m. at-every (length Y) (λ i. isMember marks (getD Y i 0)) (λ i l. eqb-same (weight marks (getD Y i 0)) 1 (m (getD Y i 0) (i, l, refl))),
 )
 
@@ -120,8 +120,14 @@ pub separates-decided : (marks : List ℕ) (z : ℕ) (Y : List ℕ) → T (isSep
 separates-decided marks z Y = (
   λ t. let s = any-at (length Y) test t in
       let q = T-both (isMember marks (b (s .0))) (not (isIn (b (s .0)) Y)) .0 (s .2) in
-      separates-at marks z Y .1
-      (s .0, record { inside = s .1; member = eqb→eq (weight marks (b (s .0))) 1 (q .0); outside = λ h. T-not (isIn (b (s .0)) Y) (q .1) (in-decided (b (s .0)) Y .1 h) }),
+      separates-at marks z Y .1 (
+        s .0,
+        record {
+          inside = s .1;
+          member = eqb→eq (weight marks (b (s .0))) 1 (q .0);
+          outside = λ h. T-not (isIn (b (s .0)) Y) (q .1) (in-decided (b (s .0)) Y .1 h);
+        },
+      ),
   λ s. let p = separates-at marks z Y .0 s in
       at-any (length Y) test (p .0) (p .1 .inside)
       (T-both (isMember marks (b (p .0))) (not (isIn (b (p .0)) Y)) .1
@@ -141,11 +147,14 @@ balanced-decided n z Y = (
         zero-xor = eqb→eq (xorAll Y) 0 (q .0);
         triples =
             λ i j k l g f.
-            eqb→eq (sumOver (triple z i j k) Y % 2) 0 (every-at j (first j k) (every-at k (second k) (every-at n third (q .1) k f) j g) i l);
+            eqb→eq (sumOver (triple z i j k) Y % 2) 0
+            (every-at j (first j k) (every-at k (second k) (every-at n third (q .1) k f) j g) i l);
       },
   λ b. T-both (eqb (xorAll Y) 0) (every n third) .1 (
     eqb-same (xorAll Y) 0 (b .zero-xor),
-    at-every n third (λ k f. at-every k (second k) (λ j g. at-every j (first j k) (λ i l. eqb-same (sumOver (triple z i j k) Y % 2) 0 (b .triples i j k l g f)))),
+    at-every n third
+        (λ k f. at-every k (second k)
+        (λ j g. at-every j (first j k) (λ i l. eqb-same (sumOver (triple z i j k) Y % 2) 0 (b .triples i j k l g f)))),
   ),
 )
   where
@@ -174,7 +183,8 @@ legal-decided most n marks z Y = (
       },
   λ g. T-both (A && B && C && D) E .1 (
     T-both (A && B && C) D .1 (
-      T-both (A && B) C .1 (T-both A B .1 (le→leb (length Y) most (g .few), ascending-decided Y .1 (g .ordered)), members-decided marks Y .1 (g .marked)),
+      T-both (A && B) C .1
+          (T-both A B .1 (le→leb (length Y) most (g .few), ascending-decided Y .1 (g .ordered)), members-decided marks Y .1 (g .marked)),
       separates-decided marks z Y .1 (g .separates),
     ),
     balanced-decided n z Y .1 (g .balanced),
@@ -204,7 +214,8 @@ same-decided [] [] = (λ t. refl, λ e. tt)
 same-decided [] (y ∷ ys) = (λ t. absurd t, λ e. let q : _≡_ {A = ℕ} 0 1 = cc in absurd (omega arith))
 same-decided (x ∷ xs) [] = (λ t. absurd t, λ e. let q : _≡_ {A = ℕ} 0 1 = cc in absurd (omega arith))
 same-decided (x ∷ xs) (y ∷ ys) = (
-  λ t. let q = T-both (eqb x y) (sameCells xs ys) .0 t in ap₂ (λ (a : ℕ) (r : List ℕ). a ∷ r) (eqb→eq x y (q .0)) (same-decided xs ys .0 (q .1)),
+  λ t. let q = T-both (eqb x y) (sameCells xs ys) .0 t in
+      ap₂ (λ (a : ℕ) (r : List ℕ). a ∷ r) (eqb→eq x y (q .0)) (same-decided xs ys .0 (q .1)),
   λ e. T-both (eqb x y) (sameCells xs ys) .1 (eqb-same x y (cc), same-decided xs ys .1 (cc)),
 )
 

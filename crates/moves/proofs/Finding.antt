@@ -1,6 +1,7 @@
--- What the finder's echelon says of one pair a, b: the column of a comes down to 0, and its mask spells a legal move; or it is stopped, and the pair has none.
+-- What the finder's echelon says of one pair a, b: the column of a comes down to 0, and its mask names the set of a legal move; or it is
+-- stopped, and the pair has none.
 use mathlib.Core.List.{List, map}
-use mathlib.Core.Logic.{_≢_, _⊎_, inl, inr}
+use mathlib.Core.Logic.{_≢_}
 use mathlib.Core.Path.{_∙_, _≡_, ap, refl, subst, sym}
 use Prim.Native.Nat.{_%_, _+_, _<_, _^_, _≤_, ℕ}
 use native.Mathlib.Decide.{ℕ-discrete}
@@ -10,69 +11,44 @@ use lib.Bits.{bitXor, xor-self}
 use lib.ListN.{getD, length, length-map}
 use lib.Seq.{getD-set-other, getD-set-same}
 use Rattle.circuit.specs.Sound.{SoundMarks}
-use Rattle.gf2.proofs.Basis.{basis-more, basis-names, basis-none-gives, basis-same, basis-spells, members-long}
+use Rattle.gf2.proofs.Basis.{basis-names, basis-none-gives, basis-same, basis-spells, members-long}
 use Rattle.gf2.proofs.Bit.{bit-of-zero}
 use Rattle.gf2.proofs.Combination.{combine-whole}
 use Rattle.gf2.proofs.Over.{xorAll-more}
 use Rattle.gf2.proofs.Pairing.{sum-delta}
 use Rattle.gf2.proofs.Sum.{delta-other, delta-same, sum-add, sum-ext}
 use Rattle.gf2.specs.Bit.{bit}
-use Rattle.gf2.specs.Echelon.{Basis, Inserted, Reached, Stopped}
+use Rattle.gf2.specs.Echelon.{Basis, Reached, Stopped}
 use Rattle.gf2.specs.Over.{xorAll}
 use Rattle.gf2.specs.Selection.{combine}
 use Rattle.gf2.specs.Sum.{delta, sum}
 use Rattle.moves.proofs.Flips.{flip-bits}
 use Rattle.moves.proofs.Keep.{member-lt}
+use Rattle.moves.proofs.Naming.{Room, named-bits, named-few, named-from, named-length, named-xor}
 use Rattle.moves.proofs.Pairs.{legal-listed, reach}
 use Rattle.moves.proofs.Sets.{listed-more}
-use Rattle.moves.proofs.Spelling.{Room, spell-bits, spell-few, spell-from, spell-length, spell-xor}
 use Rattle.moves.specs.CarryOut.{flip}
 use Rattle.moves.specs.Kappa.{kappa}
 use Rattle.moves.specs.Move.{Legal, Member}
-use Rattle.moves.specs.Pair.{Offer, Other, Reach, spell, spelled}
+use Rattle.moves.specs.Pair.{Offer, Other, Reach, named, namedSet}
 use Rattle.moves.specs.Sets.{listed}
 
 other-wider : (j k : ℕ) (marks : List ℕ) (a b : ℕ) → j ≤ k → (y : ℕ) → Other j marks a b y → Other k marks a b y
 other-wider j k marks a b h y o = record { below = omega (arith, o .below); member = o .member; not-a = o .not-a; not-b = o .not-b }
 
--- ---- the members other than a and b go in, one parity after another
-
-module _ (N : ℕ) (κ : ℕ → ℕ) (marks : List ℕ) (a b : ℕ) where
-  module _ (k : ℕ) (vec mask member : List ℕ) (h : Basis N (Other k marks a b) κ vec mask member) where
-    -- parity k is no member, or is a or b
-    pub others-skip : (Member marks k → k ≢ a → k ≢ b → ⊥) → Basis N (Other (k + 1) marks a b) κ vec mask member
-    others-skip none = basis-same N κ (Other k marks a b) (Other (k + 1) marks a b) vec mask member (other-wider k (k + 1) marks a b (omega arith)) back h
-      where
-        back : (y : ℕ) → Other (k + 1) marks a b y → Other k marks a b y
-        back y o = go (ℕ-discrete y k)
-          where
-            go : Dec (y ≡ k) → Other k marks a b y
-            go (yes e) = absurd (none (rw (← e) (o .member)) (rw (← e) (o .not-a)) (rw (← e) (o .not-b)))
-            go (no ne) = record { below = omega (arith, o .below); member = o .member; not-a = o .not-a; not-b = o .not-b }
-
-    -- it is another member, and its column goes in
-    pub others-more : (vec′ mask′ member′ : List ℕ) → Member marks k → k ≢ a → k ≢ b → Inserted N κ k vec mask member vec′ mask′ member′
-        → Basis N (Other (k + 1) marks a b) κ vec′ mask′ member′
-    others-more vec′ mask′ member′ mk na nb t =
-        basis-more N κ (Other k marks a b) (Other (k + 1) marks a b) vec mask member vec′ mask′ member′ k (other-wider k (k + 1) marks a b (omega arith))
-        (record { below = omega arith; member = mk; not-a = na; not-b = nb }) (λ y o. split y o (ℕ-discrete y k)) h t
-      where
-        split : (y : ℕ) → Other (k + 1) marks a b y → Dec (y ≡ k) → Other k marks a b y ⊎ (y ≡ k)
-        split y o (yes e) = inr e
-        split y o (no n) = inl (record { below = omega (arith, o .below); member = o .member; not-a = o .not-a; not-b = o .not-b })
-
-  -- a and b may change places
-  pub others-swap : (k : ℕ) (vec mask member : List ℕ) → Basis N (Other k marks a b) κ vec mask member → Basis N (Other k marks b a) κ vec mask member
-  others-swap k vec mask member =
-      basis-same N κ (Other k marks a b) (Other k marks b a) vec mask member
-      (λ y o. record { below = o .below; member = o .member; not-a = o .not-b; not-b = o .not-a })
-      (λ y o. record { below = o .below; member = o .member; not-a = o .not-b; not-b = o .not-a })
+-- a and b may change places
+pub others-swap : (N : ℕ) (κ : ℕ → ℕ) (marks : List ℕ) (a b k : ℕ) (vec mask member : List ℕ)
+    → Basis N (Other k marks a b) κ vec mask member → Basis N (Other k marks b a) κ vec mask member
+others-swap N κ marks a b k vec mask member =
+    basis-same N κ (Other k marks a b) (Other k marks b a) vec mask member
+    (λ y o. record { below = o .below; member = o .member; not-a = o .not-b; not-b = o .not-a })
+    (λ y o. record { below = o .below; member = o .member; not-a = o .not-b; not-b = o .not-a })
 
 -- ---- what they decide
 
-module _ (size n most : ℕ) (room : 2 ^ n ≤ size) (marks : List ℕ) (sound : SoundMarks size n marks) (a b z t : ℕ) (ma : Member marks a) (mb : Member marks b)
-    (z-is : z ≡ bitXor a b) (t-lt : t < n) (z-t : bit z t ≡ 1) (N : ℕ) (vec mask member : List ℕ)
-    (basis : Basis N (Other size marks a b) (kappa n z t) vec mask member) where
+module _ (size n most : ℕ) (room : 2 ^ n ≤ size) (marks : List ℕ) (sound : SoundMarks size n marks) (a b z t : ℕ)
+    (ma : Member marks a) (mb : Member marks b) (z-is : z ≡ bitXor a b) (t-lt : t < n) (z-t : bit z t ≡ 1)
+    (N : ℕ) (vec mask member : List ℕ) (basis : Basis N (Other size marks a b) (kappa n z t) vec mask member) where
   abbrev κ : ℕ → ℕ
   κ = kappa n z t
 
@@ -80,26 +56,26 @@ module _ (size n most : ℕ) (room : 2 ^ n ≤ size) (marks : List ℕ) (sound :
   pair-t = rw (← z-is) z-t
 
   -- the column of a came down to 0, with the mask m: a legal move
-  pub found : (m : ℕ) → N + 1 ≤ most → Reached vec mask (kappa n z t a) 0 m → Legal most n marks z (spelled size member m N a)
+  pub found : (m : ℕ) → N + 1 ≤ most → Reached vec mask (kappa n z t a) 0 m → Legal most n marks z (namedSet size member m N a)
   found m enough red =
       subst (λ (x : ℕ). Legal most n marks x (listed size g)) (sym z-is)
       (legal-listed size n most room marks sound a b t ma mb t-lt pair-t g two only-members on-a off-b few zeroes)
     where
       w : List ℕ
-      w = spell size member m N
+      w = named size member m N
 
       g : ℕ → ℕ
       g p = getD (flip w a) p 0
 
-      named : (j : ℕ) → bit m j ≡ 1 → Other size marks a b (getD member j 0)
-      named j e = basis-names N κ (Other size marks a b) vec mask member basis (κ a) 0 m j red e
+      is-other : (j : ℕ) → bit m j ≡ 1 → Other size marks a b (getD member j 0)
+      is-other j e = basis-names N κ (Other size marks a b) vec mask member basis (κ a) 0 m j red e
 
       fits : Room size member m N
-      fits j l e = named j e .below
+      fits j l e = is-other j e .below
 
-      -- a mark that the mask spells is another member's
+      -- a mark that the mask names is another member's
       from : (p : ℕ) → getD w p 0 ≢ 0 → Other size marks a b p
-      from p ne = let s = spell-from size member m N p ne in subst (λ (x : ℕ). Other size marks a b x) (s .3) (named (s .0) (s .2))
+      from p ne = let s = named-from size member m N p ne in subst (λ (x : ℕ). Other size marks a b x) (s .3) (is-other (s .0) (s .2))
 
       unmarked : (p : ℕ) → (Other size marks a b p → ⊥) → getD w p 0 ≡ 0
       unmarked p no-other = go (ℕ-discrete (getD w p 0) 0)
@@ -109,7 +85,7 @@ module _ (size n most : ℕ) (room : 2 ^ n ≤ size) (marks : List ℕ) (sound :
           go (no ne) = absurd (no-other (from p ne))
 
       a-fits : a < length w
-      a-fits = rw (spell-length size member m N) (omega (arith, member-lt size n marks sound a ma))
+      a-fits = rw (named-length size member m N) (omega (arith, member-lt size n marks sound a ma))
 
       w-a : getD w a 0 ≡ 0
       w-a = unmarked a (λ o. o .not-a refl)
@@ -134,7 +110,7 @@ module _ (size n most : ℕ) (room : 2 ^ n ≤ size) (marks : List ℕ) (sound :
       off-b = off-a b apart ∙ unmarked b (λ o. o .not-b refl)
 
       two : (p : ℕ) → getD (flip w a) p 0 < 2
-      two p = flip-bits w a p (spell-bits size member m N p)
+      two p = flip-bits w a p (named-bits size member m N p)
 
       only-members : (p : ℕ) → getD (flip w a) p 0 ≡ 1 → Member marks p
       only-members p e = go (ℕ-discrete p a)
@@ -147,7 +123,7 @@ module _ (size n most : ℕ) (room : 2 ^ n ≤ size) (marks : List ℕ) (sound :
       few =
           omega (
             arith,
-            spell-few size member m N fits,
+            named-few size member m N fits,
             sum-ext size (λ p. getD (flip w a) p 0) (λ p. delta a p + getD w p 0) (λ p l. more p),
             sum-add size (delta a) (λ p. getD w p 0),
             sum-delta size a (omega (arith, member-lt size n marks sound a ma)),
@@ -159,9 +135,10 @@ module _ (size n most : ℕ) (room : 2 ^ n ≤ size) (marks : List ℕ) (sound :
           ap (λ (x : ℕ). xorAll (map (kappa n x t) (listed size g))) (sym z-is)
           ∙ xorAll-more κ a (listed size g) (listed size (λ p. getD w p 0))
           (λ c. ap (λ (x : ℕ). x % 2)
-          (listed-more size a (λ p. getD w p 0) (λ p. getD (flip w a) p 0) (spell-bits size member m N) two (omega (arith, member-lt size n marks sound a ma)) (λ p l. more p) c))
+          (listed-more size a (λ p. getD w p 0) (λ p. getD (flip w a) p 0) (named-bits size member m N) two
+          (omega (arith, member-lt size n marks sound a ma)) (λ p l. more p) c))
           ∙ ap (bitXor (κ a))
-          (spell-xor size member m κ N (rw long (le-refl _)) fits
+          (named-xor size member m κ N (rw long (le-refl _)) fits
           ∙ ap (λ (k : ℕ). combine (m % 2 ^ k) (map κ member)) (sym (length-map member κ ∙ long)) ∙ combine-whole m (map κ member)
           ∙ basis-spells N κ (Other size marks a b) vec mask member basis (κ a) m red)
           ∙ xor-self (κ a)

@@ -21,8 +21,8 @@ clear-carryOut marks z Y = rw cleared
 -- ---- for a loop over Y: what it keeps is `flipPairs now z (drop i Y) ≡ flipPairs before z Y`
 
 -- one turn of it
-pub pairs-next : (w w₁ w₂ R : List ℕ) (z : ℕ) (Y : List ℕ) (i : ℕ) → i < length Y → w₁ ≡ flip w (getD Y i 0) → w₂ ≡ flip w₁ (bitXor (getD Y i 0) z)
-    → flipPairs w z (drop i Y) ≡ R → flipPairs w₂ z (drop (i + 1) Y) ≡ R
+pub pairs-next : (w w₁ w₂ R : List ℕ) (z : ℕ) (Y : List ℕ) (i : ℕ) → i < length Y → w₁ ≡ flip w (getD Y i 0)
+    → w₂ ≡ flip w₁ (bitXor (getD Y i 0) z) → flipPairs w z (drop i Y) ≡ R → flipPairs w₂ z (drop (i + 1) Y) ≡ R
 unfolding flipPairs
 pairs-next w w₁ w₂ R z Y i l e₁ e₂ h = rw (e₂, e₁, add-one i) (ap (λ (q : List ℕ). flipPairs w z q) (sym (drop-cons Y i 0 l)) ∙ h)
 

@@ -1,22 +1,19 @@
 -- A legal move keeps the signature, and leaves sound marks.
-use mathlib.Core.List.{List, map}
+use mathlib.Core.List.{List}
 use mathlib.Core.Path.{_∙_, _≡_, ap, refl, sym}
 use Prim.Native.Nat.{_%_, _*_, _+_, _<_, _^_, _≤_, suc, zero, ℕ}
 use native.Mathlib.Decide.{decLt}
 use native.Mathlib.Omega.{arith}
 use lib.Bits.{bitXor, xor-lt}
-use lib.ListN.{List·getD-eq-default, List·getD-map, getD, length, length-map}
+use lib.ListN.{List·getD-eq-default, getD, length}
 use lib.Pow.{pow-pos}
-use Rattle.circuit.specs.OddSet.{oddSet}
 use Rattle.circuit.specs.Sound.{SoundMarks, weight}
 use Rattle.gf2.proofs.Bit.{bit-lt, bit-of-zero}
 use Rattle.gf2.proofs.Cubic.{cubic}
-use Rattle.gf2.proofs.Modular.{mul-mod-l}
 use Rattle.gf2.proofs.Sum.{delta-other, sum-mod}
 use Rattle.gf2.proofs.Xor.{xor-cancel}
 use Rattle.gf2.specs.Bit.{bit}
 use Rattle.gf2.specs.Over.{Below, sumOver}
-use Rattle.gf2.specs.Sum.{sum}
 use Rattle.gf2.specs.Table.{weightedSum}
 use Rattle.phase.proofs.Sums.{signature-sums}
 use Rattle.phase.specs.Signature.{SameSignature}
@@ -42,7 +39,9 @@ third w i j k = weightedSum w (λ p. bit p i * bit p j * bit p k) % 2
 -- the sums behind l, q and c are among these: b * b is b
 third-one : (w : List ℕ) (i : ℕ) → weightedSum w (λ p. bit p i) % 2 ≡ third w i i i
 unfolding third weightedSum
-third-one w i = sum-mod 2 (length w) (λ p. getD w p 0 * bit p i) (λ p. getD w p 0 * (bit p i * bit p i * bit p i)) (λ p l. cube (getD w p 0) (bit p i) (bit-lt p i))
+third-one w i =
+    sum-mod 2 (length w) (λ p. getD w p 0 * bit p i) (λ p. getD w p 0 * (bit p i * bit p i * bit p i))
+    (λ p l. cube (getD w p 0) (bit p i) (bit-lt p i))
   where
     cube : (m b : ℕ) → b < 2 → m * b % 2 ≡ m * (b * b * b) % 2
     cube m zero h = refl
@@ -70,26 +69,17 @@ same-signature n v w h =
       c = λ i j k ij jk lk. h i j k (omega arith) (omega arith) lk;
     })
 
-odd-third : (w : List ℕ) (i j k : ℕ) → third (oddSet w) i j k ≡ third w i j k
-unfolding oddSet third weightedSum
-odd-third w i j k =
-    let c : ℕ → ℕ = λ p. bit p i * bit p j * bit p k in
-    ap (λ (m : ℕ). sum m (λ p. getD (map (λ x. x % 2) w) p 0 * c p) % 2) (length-map w (λ x. x % 2))
-    ∙ sum-mod 2 (length w) (λ p. getD (map (λ x. x % 2) w) p 0 * c p) (λ p. getD w p 0 * c p)
-    (λ p l. ap (λ (x : ℕ). x * c p % 2) (List·getD-map (λ x. x % 2) w p 0) ∙ mul-mod-l 2 (getD w p 0) (c p))
-
--- the odd set has the signature of the weights
-pub odd-set-signature : (n : ℕ) (w : List ℕ) → SameSignature n (oddSet w) w
-odd-set-signature n w = same-signature n (oddSet w) w (λ i j k li lj lk. odd-third w i j k)
-
 -- a z that separates members is below 2 ^ n
-pub separated-lt : (size n : ℕ) (marks : List ℕ) → SoundMarks size n marks → (z : ℕ) (Y : List ℕ) → ((y : ℕ) → In y Y → Member marks y) → Separates marks z Y → z < 2 ^ n
+pub separated-lt : (size n : ℕ) (marks : List ℕ) → SoundMarks size n marks → (z : ℕ) (Y : List ℕ) → ((y : ℕ) → In y Y → Member marks y)
+    → Separates marks z Y → z < 2 ^ n
 separated-lt size n marks sound z Y marked s =
     rw (s .z-is)
-    (xor-lt n (s .a) (s .b) (member-lt size n marks sound (s .a) (marked (s .a) (s .a-in))) (member-lt size n marks sound (s .b) (s .b-member)))
+    (xor-lt n (s .a) (s .b) (member-lt size n marks sound (s .a) (marked (s .a) (s .a-in)))
+    (member-lt size n marks sound (s .b) (s .b-member)))
 
 -- one legal move of sound marks
-module _ (size n most : ℕ) (room : 2 ^ n ≤ size) (marks : List ℕ) (sound : SoundMarks size n marks) (z : ℕ) (Y : List ℕ) (legal : Legal most n marks z Y) where
+module _ (size n most : ℕ) (room : 2 ^ n ≤ size) (marks : List ℕ) (sound : SoundMarks size n marks) (z : ℕ) (Y : List ℕ)
+    (legal : Legal most n marks z Y) where
   pub y-lt : Below (2 ^ n) Y
   y-lt i l = member-lt size n marks sound (getD Y i 0) (legal .marked (getD Y i 0) (i, l, refl))
 

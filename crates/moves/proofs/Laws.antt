@@ -1,7 +1,8 @@
--- The laws of moves on one page, for every n: `size` is the number of marks, `most` the most that Y may have. The proofs are in the modules named.
+-- The laws of moves on one page, for every n: `size` is the number of marks, `most` the most that Y may have.
+-- The proofs are in the modules named.
 use mathlib.Core.List.{List, map}
 use mathlib.Core.Logic.{_↔_, _≢_}
-use mathlib.Core.Path.{_≡_, ap, refl}
+use mathlib.Core.Path.{_≡_, refl}
 use Prim.Native.Nat.{_*_, _+_, _/_, _<_, _^_, _≤_, ℕ}
 use native.Mathlib.Nat.{le-refl}
 use native.Mathlib.Omega.{arith}
@@ -11,7 +12,7 @@ use lib.Dec.{T}
 use lib.ListN.{length}
 use lib.Pow.{pow-mono}
 use Rattle.circuit.specs.Limits.{logCells, maxMembers, maxWires, moveCells, parities, productBits}
-use Rattle.circuit.specs.OddSet.{members, oddSet}
+use Rattle.circuit.specs.OddSet.{members}
 use Rattle.circuit.specs.Sound.{SoundMarks}
 use Rattle.gf2.proofs.Leading.{lowest}
 use Rattle.gf2.specs.Bit.{bit}
@@ -19,7 +20,7 @@ use Rattle.gf2.specs.Over.{Below, xorAll}
 use Rattle.phase.specs.Signature.{SameSignature}
 use Rattle.moves.proofs.Bound.{bound}
 use Rattle.moves.proofs.Deciding.{move-decided}
-use Rattle.moves.proofs.Keep.{keeps, odd-set-signature, sound-kept}
+use Rattle.moves.proofs.Keep.{keeps, sound-kept}
 use Rattle.moves.proofs.Logs.{cells-unique}
 use Rattle.moves.proofs.OneXor.{balanced-iff}
 use Rattle.moves.proofs.Pairs.{none-reached, offer-iff}
@@ -31,7 +32,7 @@ use Rattle.moves.specs.CarryOut.{carryOut}
 use Rattle.moves.specs.Decide.{isMove}
 use Rattle.moves.specs.Kappa.{kappa}
 use Rattle.moves.specs.Log.{LegalCells, asCells}
-use Rattle.moves.specs.Move.{Balanced, Legal, Member}
+use Rattle.moves.specs.Move.{Balanced, Legal, Member, NoneLegal}
 use Rattle.moves.specs.Pair.{Offer, Reach}
 use Rattle.moves.specs.Product.{product, tri}
 use Rattle.moves.specs.Replay.{Replays}
@@ -65,7 +66,7 @@ module _ (size n most : ℕ) (room : 2 ^ n ≤ size) (marks : List ℕ) (sound :
   move-shrinks = shrinks size n most room marks sound
 
   -- where no move is legal, at most (n² + n)/2 + 1 members are left
-  pub none-legal-bound : tri n + 1 ≤ most → ((z : ℕ) (Y : List ℕ) → Legal most n marks z Y → ⊥) → members marks ≤ (n * n + n) / 2 + 1
+  pub none-legal-bound : tri n + 1 ≤ most → NoneLegal most n marks → members marks ≤ (n * n + n) / 2 + 1
   none-legal-bound enough none = rw (← (tri-square n)) (bound size n most marks sound enough none)
 
   -- on more wires the same moves are legal
@@ -74,17 +75,16 @@ module _ (size n most : ℕ) (room : 2 ^ n ≤ size) (marks : List ℕ) (sound :
 
   -- ---- the finder
 
-  -- members a and b that differ on wire t: a legal move with a in Y and b not in Y, exactly where the column of a is the xor of columns of others
-  pub pair-exact : (a b t : ℕ) → Member marks a → Member marks b → t < n → bit (bitXor a b) t ≡ 1 → Offer most n marks a b ↔ Reach most n t marks a b
+  -- members a and b that differ on wire t: a legal move with a in Y and b not in Y,
+  -- exactly where the column of a is the xor of columns of others
+  pub pair-exact : (a b t : ℕ) → Member marks a → Member marks b → t < n → bit (bitXor a b) t ≡ 1
+      → Offer most n marks a b ↔ Reach most n t marks a b
   pair-exact a b t ma mb l h = offer-iff size n most room marks sound a b t ma mb l h
 
   -- no pair reaches: no z and Y make a legal move
   pub none-exact : ((a b : ℕ) → Member marks a → Member marks b → a ≢ b → Reach most n (trailingZeros n (bitXor a b)) marks a b → ⊥)
-      → (z : ℕ) (Y : List ℕ) → Legal most n marks z Y → ⊥
+      → NoneLegal most n marks
   none-exact = none-reached size n most room marks sound (trailingZeros n) (λ z ne l. lowest n n z (le-refl _) ne l)
-
-pub bound-number : (n : ℕ) → tri n + 1 ≡ (n * n + n) / 2 + 1
-bound-number n = ap (λ (x : ℕ). x + 1) (tri-square n)
 
 -- the xor of Y is 0 and every triple condition holds, exactly where one xor is 0
 pub one-xor : (n z t : ℕ) → t < n → bit z t ≡ 1 → (Y : List ℕ) → Below (2 ^ n) Y → Balanced n z Y ↔ (xorAll (map (kappa n z t) Y) ≡ 0)
@@ -101,17 +101,13 @@ pub one-move : (most z z′ : ℕ) (Y Y′ : List ℕ) → asCells most z Y ≡ 
 one-move = cells-unique
 
 -- carrying out logged moves keeps the signature, and every one takes a member at least
-pub replay-keeps-signature : (size n most : ℕ) → 2 ^ n ≤ size → (m : List ℕ) (moves : List (List ℕ)) (m′ : List ℕ) → SoundMarks size n m → Replays most n m moves m′
-    → SameSignature n m′ m
+pub replay-keeps-signature : (size n most : ℕ) → 2 ^ n ≤ size → (m : List ℕ) (moves : List (List ℕ)) (m′ : List ℕ) → SoundMarks size n m
+    → Replays most n m moves m′ → SameSignature n m′ m
 replay-keeps-signature = replays-signature
 
-pub replay-shrinks : (size n most : ℕ) → 2 ^ n ≤ size → (m : List ℕ) (moves : List (List ℕ)) (m′ : List ℕ) → SoundMarks size n m → Replays most n m moves m′
-    → length moves + members m′ ≤ members m
+pub replay-shrinks : (size n most : ℕ) → 2 ^ n ≤ size → (m : List ℕ) (moves : List (List ℕ)) (m′ : List ℕ) → SoundMarks size n m
+    → Replays most n m moves m′ → length moves + members m′ ≤ members m
 replay-shrinks = replays-shrinks
-
--- the odd set of weights has their signature
-pub odd-set-keeps-signature : (n : ℕ) (w : List ℕ) → SameSignature n (oddSet w) w
-odd-set-keeps-signature = odd-set-signature
 
 -- ---- up to eight wires
 

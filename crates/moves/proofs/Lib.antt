@@ -8,7 +8,7 @@ pub mod Products
 pub mod Bound
 pub mod OneXor
 pub mod Pairs
-pub mod Spelling
+pub mod Naming
 pub mod Finding
 pub mod Wires
 pub mod Logs

@@ -8,8 +8,9 @@ use native.Mathlib.Omega.{arith}
 use lib.ListN.{drop, getD, length, length-append, length-drop, length-replicate, replicate, set, take, take-append-drop}
 use lib.Seq.{drop-at, ext-getD, getD-append-add, getD-drop, length-take-le, set-append-seam, take-add, take-append-seam, take-at, take-take}
 use borrow.Author.Tests.{le-leb, lt-leb}
-use Rattle.gf2.proofs.Combination.{getD-zeros}
-use Rattle.moves.specs.Log.{LegalCells, asCells, logged, moveAt, setOf, zOf}
+use Rattle.circuit.specs.Lent.{placed}
+use Rattle.gf2.proofs.Table.{getD-zeros}
+use Rattle.moves.specs.Log.{LegalCells, MoveForm, asCells, logged, moveAt, setOf, zOf}
 use Rattle.moves.specs.Move.{Legal}
 
 -- ---- the cells of a move
@@ -59,7 +60,8 @@ cells-more most z Y y h =
 pub cells-say : (most z : ℕ) (Y cells : List ℕ) → cells ≡ asCells most z Y → (zOf cells ≡ z) × (setOf cells ≡ Y)
 cells-say most z Y cells e = (
   ap (λ (f : List ℕ). getD f 0 0) e ∙ cells-z most z Y,
-  ap (λ (f : List ℕ). take (getD f 1 0) (drop 2 f)) e ∙ ap (λ (c : ℕ). take c (drop 2 (asCells most z Y))) (cells-count most z Y) ∙ cells-set most z Y,
+  ap (λ (f : List ℕ). take (getD f 1 0) (drop 2 f)) e ∙ ap (λ (c : ℕ). take c (drop 2 (asCells most z Y))) (cells-count most z Y)
+      ∙ cells-set most z Y,
 )
 
 -- and no other
@@ -70,24 +72,23 @@ cells-unique most z z′ Y Y′ e =
     (sym (s .0) ∙ t .0, sym (s .1) ∙ t .1)
 
 -- cells with a count that fits and zeros after the set are those of the move that they say
-pub said-cells : (most : ℕ) (cells : List ℕ) → length cells ≡ most + 2 → getD cells 1 0 ≤ most
-    → ((i : ℕ) → getD cells 1 0 + 2 ≤ i → i < most + 2 → getD cells i 0 ≡ 0) → cells ≡ asCells most (zOf cells) (setOf cells)
+pub said-cells : (most : ℕ) (cells : List ℕ) → MoveForm most cells → cells ≡ asCells most (zOf cells) (setOf cells)
 unfolding asCells
-said-cells most [] len few zeroes = absurd (omega arith)
-said-cells most (z ∷ []) len few zeroes = absurd (omega arith)
-said-cells most (z ∷ c ∷ rest) len few zeroes =
-    rw (length-take-le c rest (omega arith)) (ap (λ (r : List ℕ). z ∷ c ∷ r) (sym (take-append-drop c rest) ∙ ap (λ (r : List ℕ). take c rest ++ r) left))
+said-cells most [] form = absurd (omega (arith, form .long))
+said-cells most (z ∷ []) form = absurd (omega (arith, form .long))
+said-cells most (z ∷ c ∷ rest) form =
+    rw (length-take-le c rest (omega (arith, form .long, form .few)))
+    (ap (λ (r : List ℕ). z ∷ c ∷ r) (sym (take-append-drop c rest) ∙ ap (λ (r : List ℕ). take c rest ++ r) left))
   where
     left : drop c rest ≡ replicate (most - c) 0
     left =
         ext-getD 0 (drop c rest) (replicate (most - c) 0) (omega (arith, length-drop c rest, length-replicate {A = ℕ} (most - c) 0))
-        (λ i l. getD-drop c rest i 0 ∙ zeroes (suc (suc (c + i))) (omega arith) (omega (arith, length-drop c rest)) ∙ sym (getD-zeros (most - c) i))
+        (λ i l. getD-drop c rest i 0 ∙ form .zeros (suc (suc (c + i))) (omega arith) (omega (arith, length-drop c rest))
+        ∙ sym (getD-zeros (most - c) i))
 
--- what code can look at, one after another, where cells are to be a legal move
+-- what code can look at where cells are to be a legal move: their form, and the move that they say
 pub record Checked (most n : ℕ) (marks cells : List ℕ) : Type 0 where
-  pub long : length cells ≡ most + 2
-  pub count : getD cells 1 0 ≤ most
-  pub zeroes : (i : ℕ) → getD cells 1 0 + 2 ≤ i → i < most + 2 → getD cells i 0 ≡ 0
+  pub form : MoveForm most cells
   pub legal : Legal most n marks (zOf cells) (setOf cells)
 
 pub cells-checked : (most n : ℕ) (marks cells : List ℕ) → LegalCells most n marks cells ↔ Checked most n marks cells
@@ -95,12 +96,15 @@ cells-checked most n marks cells = (
   λ f. let s = cells-say most (f .z) (f .Y) cells (f .is) in
       let c : getD cells 1 0 ≡ length (f .Y) = ap (λ (b : List ℕ). getD b 1 0) (f .is) ∙ cells-count most (f .z) (f .Y) in
       record {
-        long = ap length (f .is) ∙ cells-length most (f .z) (f .Y) (f .legal .few);
-        count = omega (arith, f .legal .few);
-        zeroes = λ i l h. ap (λ (b : List ℕ). getD b i 0) (f .is) ∙ cells-rest most (f .z) (f .Y) i (omega arith);
+        form =
+            record {
+              long = ap length (f .is) ∙ cells-length most (f .z) (f .Y) (f .legal .few);
+              few = omega (arith, f .legal .few);
+              zeros = λ i l h. ap (λ (b : List ℕ). getD b i 0) (f .is) ∙ cells-rest most (f .z) (f .Y) i (omega arith);
+            };
         legal = rw (s .0, s .1) (f .legal);
       },
-  λ h. record { z = zOf cells; Y = setOf cells; is = said-cells most cells (h .long) (h .count) (h .zeroes); legal = h .legal },
+  λ h. record { z = zOf cells; Y = setOf cells; is = said-cells most cells (h .form); legal = h .legal },
 )
 
 -- ---- a log
@@ -130,12 +134,15 @@ move-same size k log log′ e same = go (decLt (length log) (size * k + size))
         move-whole size log k (omega arith) ∙ part (size * k) size log (omega arith) ∙ ap (drop (size * k)) same
         ∙ sym (move-whole size log′ k (omega arith) ∙ part (size * k) size log′ (omega arith))
 
-pub logged-same : (size m : ℕ) (log log′ : List ℕ) → length log ≡ length log′ → take (size * m) log ≡ take (size * m) log′ → logged size log m ≡ logged size log′ m
+pub logged-same : (size m : ℕ) (log log′ : List ℕ) → length log ≡ length log′ → take (size * m) log ≡ take (size * m) log′
+    → logged size log m ≡ logged size log′ m
 unfolding logged
 logged-same size zero log log′ e same = refl
 logged-same size (suc m) log log′ e same =
     ap₂ (λ (fs : List (List ℕ)) (f : List ℕ). fs ++ (f ∷ []))
-    (logged-same size m log log′ e (sym (take-take (size * m) (size * suc m) log (omega arith)) ∙ ap (take (size * m)) same ∙ take-take (size * m) (size * suc m) log′ (omega arith)))
+    (logged-same size m log log′ e
+    (sym (take-take (size * m) (size * suc m) log (omega arith)) ∙ ap (take (size * m)) same
+    ∙ take-take (size * m) (size * suc m) log′ (omega arith)))
     (move-same size m log log′ e (rw next at same))
   where
     next : size * suc m ≡ size * m + size
@@ -148,16 +155,17 @@ logged-length size (suc m) log = omega (arith, length-append (logged size log m)
 
 -- one more move, written after m
 pub logged-more : (size m : ℕ) (log cells : List ℕ) → length cells ≡ size → size * m + size ≤ length log
-    → logged size (take (size * m) log ++ cells ++ drop (size * m + size) log) (suc m) ≡ logged size log m ++ (cells ∷ [])
+    → logged size (placed log (size * m) cells) (suc m) ≡ logged size log m ++ (cells ∷ [])
 unfolding logged
 logged-more size m log cells len room =
     let j : ℕ = size * m in
-    let after : List ℕ = drop (j + size) log in
+    let after : List ℕ = drop (j + length cells) log in
     let new : List ℕ = take j log ++ cells ++ after in
     let front : length (take j log) ≡ j = length-take-le j log (omega arith) in
     let long : length new ≡ length log =
-    omega (arith, length-append (take j log ++ cells) after, length-append (take j log) cells, length-drop (j + size) log) in
+    omega (arith, length-append (take j log ++ cells) after, length-append (take j log) cells, length-drop (j + length cells) log) in
     ap₂ (λ (fs : List (List ℕ)) (f : List ℕ). fs ++ (f ∷ []))
     (logged-same size m new log long (ap (take j) (append-assoc (take j log) cells after) ∙ take-at (take j log) (cells ++ after) j front))
-    (move-whole size new m (omega arith) ∙ ap (take size) (ap (drop j) (append-assoc (take j log) cells after) ∙ drop-at (take j log) (cells ++ after) j front)
+    (move-whole size new m (omega arith)
+    ∙ ap (take size) (ap (drop j) (append-assoc (take j log) cells after) ∙ drop-at (take j log) (cells ++ after) j front)
     ∙ take-at cells after size len)

@@ -54,23 +54,27 @@ kappa-bit n z t y i j h l =
 -- ---- the arithmetic of one y: s, a, b, c are its bits t, i, j, k, and p, q, r the bits i, j, k of z
 one-bit : (s a p : ℕ) → s < 2 → a < 2 → p < 2 → a % 2 ≡ ((a + s * p) % 2 * ((a + s * p) % 2) + p * s) % 2
 one-bit s a p hs ha hp =
-    brute6 (λ s a p u v w. a % 2) (λ s a p u v w. ((a + s * p) % 2 * ((a + s * p) % 2) + p * s) % 2) tt s a p 0 0 0 hs ha hp (omega arith) (omega arith) (omega arith)
+    brute6 (λ s a p u v w. a % 2) (λ s a p u v w. ((a + s * p) % 2 * ((a + s * p) % 2) + p * s) % 2) tt
+    s a p 0 0 0 hs ha hp (omega arith) (omega arith) (omega arith)
 
 -- a product of two bits of bar y, by the triple of t
 two-bits : (s a b p q : ℕ) → s < 2 → a < 2 → b < 2 → p < 2 → q < 2
     → (a + s * p) % 2 * ((b + s * q) % 2) % 2 ≡ ((1 * a * b + p * s * b + q * s * a) % 2 + p * q * s) % 2
 two-bits s a b p q hs ha hb hp hq =
-    brute6 (λ s a b p q u. (a + s * p) % 2 * ((b + s * q) % 2) % 2) (λ s a b p q u. ((1 * a * b + p * s * b + q * s * a) % 2 + p * q * s) % 2) tt s a b p q 0 hs ha hb
+    brute6 (λ s a b p q u. (a + s * p) % 2 * ((b + s * q) % 2) % 2)
+    (λ s a b p q u. ((1 * a * b + p * s * b + q * s * a) % 2 + p * q * s) % 2) tt s a b p q 0 hs ha hb
     hp hq (omega arith)
 
 -- a triple, by products of two bits of bar y
 three-bits : (s a b c p q r : ℕ) → s < 2 → a < 2 → b < 2 → c < 2 → p < 2 → q < 2 → r < 2
     → (p * b * c + q * a * c + r * a * b) % 2 % 2
-    ≡ (p * ((b + s * q) % 2 * ((c + s * r) % 2)) + (q * ((a + s * p) % 2 * ((c + s * r) % 2)) + (r * ((a + s * p) % 2 * ((b + s * q) % 2)) + p * q * r * s))) % 2
+    ≡ (p * ((b + s * q) % 2 * ((c + s * r) % 2))
+    + (q * ((a + s * p) % 2 * ((c + s * r) % 2)) + (r * ((a + s * p) % 2 * ((b + s * q) % 2)) + p * q * r * s))) % 2
 three-bits =
     brute7 (λ s a b c p q r. (p * b * c + q * a * c + r * a * b) % 2 % 2)
     (λ s a b c p q r.
-    (p * ((b + s * q) % 2 * ((c + s * r) % 2)) + (q * ((a + s * p) % 2 * ((c + s * r) % 2)) + (r * ((a + s * p) % 2 * ((b + s * q) % 2)) + p * q * r * s))) % 2) tt
+    (p * ((b + s * q) % 2 * ((c + s * r) % 2))
+    + (q * ((a + s * p) % 2 * ((c + s * r) % 2)) + (r * ((a + s * p) % 2 * ((b + s * q) % 2)) + p * q * r * s))) % 2) tt
 
 module _ (n z t : ℕ) (t-lt : t < n) (z-t : bit z t ≡ 1) (Y : List ℕ) where
   -- the product of bits i and j of bar y
@@ -88,7 +92,8 @@ module _ (n z t : ℕ) (t-lt : t < n) (z-t : bit z t ≡ 1) (Y : List ℕ) where
     bb-up : (i j : ℕ) → i ≤ j → j < n → Even (bb i j) Y
     bb-up i j h l =
         let e : ℕ = bit (2 ^ (tri t + t)) (tri j + i) in
-        even-by (bb i j) (λ y. bit (kappa n z t y) (tri j + i) + e * bit y t) Y (λ y. rw (kappa-bit n z t y i j h l) (back (bb i j y) (e * bit y t)))
+        even-by (bb i j) (λ y. bit (kappa n z t y) (tri j + i) + e * bit y t) Y
+        (λ y. rw (kappa-bit n z t y i j h l) (back (bb i j y) (e * bit y t)))
         (even-add (λ y. bit (kappa n z t y) (tri j + i)) (λ y. e * bit y t) Y (zeroes (tri j + i)) (even-scale e (λ y. bit y t) Y t-even))
       where
         back : (x c : ℕ) → x % 2 ≡ ((x + c) % 2 + c) % 2
@@ -98,7 +103,9 @@ module _ (n z t : ℕ) (t-lt : t < n) (z-t : bit z t ≡ 1) (Y : List ℕ) where
     bb-even i j li lj = go (decLt j i)
       where
         go : Dec (j < i) → Even (bb i j) Y
-        go (yes l) = even-by (bb i j) (bb j i) Y (λ y. ap (λ (x : ℕ). x % 2) (mul-comm (bit (bar z t y) i) (bit (bar z t y) j))) (bb-up j i (omega arith) li)
+        go (yes l) =
+            even-by (bb i j) (bb j i) Y (λ y. ap (λ (x : ℕ). x % 2) (mul-comm (bit (bar z t y) i) (bit (bar z t y) j)))
+            (bb-up j i (omega arith) li)
         go (no l) = bb-up i j (omega arith) lj
 
     bits-even : (i : ℕ) → i < n → Even (λ y. bit y i) Y
@@ -114,10 +121,13 @@ module _ (n z t : ℕ) (t-lt : t < n) (z-t : bit z t ≡ 1) (Y : List ℕ) where
         let r : ℕ = bit z k in
         even-by (triple z i j k) (λ y. p * bb j k y + (q * bb i k y + (r * bb i j y + p * q * r * bit y t))) Y
         (λ y. rw (bar-bit z t y i, bar-bit z t y j, bar-bit z t y k)
-        (three-bits (bit y t) (bit y i) (bit y j) (bit y k) p q r (bit-lt y t) (bit-lt y i) (bit-lt y j) (bit-lt y k) (bit-lt z i) (bit-lt z j) (bit-lt z k)))
-        (even-add (λ y. p * bb j k y) (λ y. q * bb i k y + (r * bb i j y + p * q * r * bit y t)) Y (even-scale p (bb j k) Y (bb-even j k lj lk))
+        (three-bits (bit y t) (bit y i) (bit y j) (bit y k) p q r
+        (bit-lt y t) (bit-lt y i) (bit-lt y j) (bit-lt y k) (bit-lt z i) (bit-lt z j) (bit-lt z k)))
+        (even-add (λ y. p * bb j k y) (λ y. q * bb i k y + (r * bb i j y + p * q * r * bit y t)) Y
+        (even-scale p (bb j k) Y (bb-even j k lj lk))
         (even-add (λ y. q * bb i k y) (λ y. r * bb i j y + p * q * r * bit y t) Y (even-scale q (bb i k) Y (bb-even i k li lk))
-        (even-add (λ y. r * bb i j y) (λ y. p * q * r * bit y t) Y (even-scale r (bb i j) Y (bb-even i j li lj)) (even-scale (p * q * r) (λ y. bit y t) Y t-even))))
+        (even-add (λ y. r * bb i j y) (λ y. p * q * r * bit y t) Y (even-scale r (bb i j) Y (bb-even i j li lj))
+        (even-scale (p * q * r) (λ y. bit y t) Y t-even))))
 
     balanced : Below (2 ^ n) Y → Balanced n z Y
     balanced h = record { zero-xor = xorAll-zero n Y h bits-even; triples = λ i j k l g f. triple-even i j k (omega arith) (omega arith) f }
@@ -130,20 +140,23 @@ module _ (n z t : ℕ) (t-lt : t < n) (z-t : bit z t ≡ 1) (Y : List ℕ) where
       even-by (bb i j) (λ y. triple z t i j y + p * q * bit y t) Y
       (λ y. rw (bar-bit z t y i, bar-bit z t y j, z-t)
       (two-bits (bit y t) (bit y i) (bit y j) p q (bit-lt y t) (bit-lt y i) (bit-lt y j) (bit-lt z i) (bit-lt z j)))
-      (even-add (triple z t i j) (λ y. p * q * bit y t) Y (triples-all n z Y b t i j t-lt li lj) (even-scale (p * q) (λ y. bit y t) Y (even-bit Y (b .zero-xor) t)))
+      (even-add (triple z t i j) (λ y. p * q * bit y t) Y (triples-all n z Y b t i j t-lt li lj)
+      (even-scale (p * q) (λ y. bit y t) Y (even-bit Y (b .zero-xor) t)))
 
   zero-bits : Balanced n z Y → (u : ℕ) → u < tri n → Even (λ y. bit (kappa n z t y) u) Y
   zero-bits b u l =
       let s : Place n u = place n u l in
       let e : ℕ = bit (2 ^ (tri t + t)) (tri (s .j) + s .i) in
       rw (s .is)
-      (even-by (λ y. bit (kappa n z t y) (tri (s .j) + s .i)) (λ y. bb (s .i) (s .j) y + e * bit y t) Y (λ y. rw (kappa-bit n z t y (s .i) (s .j) (s .i-le) (s .j-lt)) (omega arith))
+      (even-by (λ y. bit (kappa n z t y) (tri (s .j) + s .i)) (λ y. bb (s .i) (s .j) y + e * bit y t) Y
+      (λ y. rw (kappa-bit n z t y (s .i) (s .j) (s .i-le) (s .j-lt)) (omega arith))
       (even-add (bb (s .i) (s .j)) (λ y. e * bit y t) Y (bb-balanced b (s .i) (s .j) (omega (arith, s .i-le, s .j-lt)) (s .j-lt))
       (even-scale e (λ y. bit y t) Y (even-bit Y (b .zero-xor) t))))
 
   pub balanced-iff : Below (2 ^ n) Y → Balanced n z Y ↔ (xorAll (map (kappa n z t) Y) ≡ 0)
   balanced-iff h = (
-    λ b. bit-ext (tri n) (xorAll (map (kappa n z t) Y)) 0 (xorAll-lt (tri n) (map (kappa n z t) Y) (below-map (kappa n z t) (2 ^ tri n) Y (λ y. kappa-lt n z t y t-lt))) (pow-pos (tri n))
+    λ b. bit-ext (tri n) (xorAll (map (kappa n z t) Y)) 0
+        (xorAll-lt (tri n) (map (kappa n z t) Y) (below-map (kappa n z t) (2 ^ tri n) Y (λ y. kappa-lt n z t y t-lt))) (pow-pos (tri n))
         (λ u l. of-map u ∙ zero-bits b u l ∙ sym (bit-of-zero u)),
     λ e. balanced (λ u. sym (of-map u) ∙ rw e (bit-of-zero u)) h,
   )

@@ -1,4 +1,5 @@
--- For members a and b and z = a xor b: a legal move with a in Y and b not in Y, exactly where the column of a is the xor of the columns of some members other than a and b.
+-- For members a and b and z = a xor b: a legal move with a in Y and b not in Y,
+-- exactly where the column of a is the xor of the columns of some members other than a and b.
 use mathlib.Core.List.{List, map}
 use mathlib.Core.Logic.{_↔_, _≢_}
 use mathlib.Core.Path.{_∙_, _≡_, ap, refl, subst, sym}
@@ -17,9 +18,10 @@ use Rattle.gf2.specs.Over.{Below, sumOver, xorAll}
 use Rattle.gf2.specs.Sum.{delta, sum}
 use Rattle.moves.proofs.Keep.{member-lt, y-lt}
 use Rattle.moves.proofs.OneXor.{balanced-iff}
-use Rattle.moves.proofs.Sets.{in-listed, in-occ, listed-ascending, listed-in, listed-length, listed-more, listed-occ, listed-sum, occ, occ-in, occ-once, occ-out, out-occ, rising, sumOver-occ}
+use Rattle.moves.proofs.Sets.{in-listed, in-occ, listed-ascending, listed-in, listed-length, listed-more, listed-occ, listed-sum}
+use Rattle.moves.proofs.Sets.{occ, occ-in, occ-once, occ-out, out-occ, rising, sumOver-occ}
 use Rattle.moves.specs.Kappa.{kappa}
-use Rattle.moves.specs.Move.{Legal, Member, Separates}
+use Rattle.moves.specs.Move.{Legal, Member, NoneLegal, Separates}
 use Rattle.moves.specs.Pair.{Offer, Other, Reach}
 use Rattle.moves.specs.Sets.{Ascending, In, listed}
 
@@ -27,8 +29,8 @@ use Rattle.moves.specs.Sets.{Ascending, In, listed}
 pub occ-marks : (Y : List ℕ) → Ascending Y → (p : ℕ) → occ p Y < 2
 occ-marks Y h p = omega (arith, occ-once 0 p Y (rising Y h))
 
-module _ (size n most : ℕ) (room : 2 ^ n ≤ size) (marks : List ℕ) (sound : SoundMarks size n marks) (a b t : ℕ) (ma : Member marks a) (mb : Member marks b)
-    (t-lt : t < n) (z-t : bit (bitXor a b) t ≡ 1) where
+module _ (size n most : ℕ) (room : 2 ^ n ≤ size) (marks : List ℕ) (sound : SoundMarks size n marks) (a b t : ℕ)
+    (ma : Member marks a) (mb : Member marks b) (t-lt : t < n) (z-t : bit (bitXor a b) t ≡ 1) where
   abbrev κ : ℕ → ℕ
   κ = kappa n (bitXor a b) t
 
@@ -42,7 +44,8 @@ module _ (size n most : ℕ) (room : 2 ^ n ≤ size) (marks : List ℕ) (sound :
   b-lt = omega (arith, member-lt size n marks sound b mb)
 
   -- a set of members with a and without b, whose columns xor to 0
-  module _ (g : ℕ → ℕ) (two : (p : ℕ) → g p < 2) (only-members : (p : ℕ) → g p ≡ 1 → Member marks p) (on-a : g a ≡ 1) (off-b : g b ≡ 0) where
+  module _ (g : ℕ → ℕ) (two : (p : ℕ) → g p < 2) (only-members : (p : ℕ) → g p ≡ 1 → Member marks p) (on-a : g a ≡ 1)
+      (off-b : g b ≡ 0) where
     member : (y : ℕ) → In y (listed size g) → Member marks y
     member y i = only-members y (listed-in g two size y i)
 
@@ -173,27 +176,30 @@ module _ (size n most : ℕ) (room : 2 ^ n ≤ size) (marks : List ℕ) (sound :
 -- ---- and so for all moves
 
 -- a legal move offers its own pair
-pub legal-offers : (most n : ℕ) (marks : List ℕ) (z : ℕ) (Y : List ℕ) (legal : Legal most n marks z Y) → Offer most n marks (legal .separates .a) (legal .separates .b)
+pub legal-offers : (most n : ℕ) (marks : List ℕ) (z : ℕ) (Y : List ℕ) (legal : Legal most n marks z Y)
+    → Offer most n marks (legal .separates .a) (legal .separates .b)
 legal-offers most n marks z Y legal =
     let s : Separates marks z Y = legal .separates in
     record { Y = Y; legal = subst (λ (x : ℕ). Legal most n marks x Y) (s .z-is) legal; a-in = s .a-in; b-out = s .b-out }
 
-pub legal-apart : (most n : ℕ) (marks : List ℕ) (z : ℕ) (Y : List ℕ) (legal : Legal most n marks z Y) → legal .separates .a ≢ legal .separates .b
+pub legal-apart : (most n : ℕ) (marks : List ℕ) (z : ℕ) (Y : List ℕ) (legal : Legal most n marks z Y)
+    → legal .separates .a ≢ legal .separates .b
 legal-apart most n marks z Y legal e =
     let s : Separates marks z Y = legal .separates in
     s .b-out (s .a-in .0, s .a-in .1, s .a-in .2 ∙ e)
 
 -- where no two members are offered a move, none is legal
 pub none-offered : (most n : ℕ) (marks : List ℕ) → ((a b : ℕ) → Member marks a → Member marks b → a ≢ b → Offer most n marks a b → ⊥)
-    → (z : ℕ) (Y : List ℕ) → Legal most n marks z Y → ⊥
+    → NoneLegal most n marks
 none-offered most n marks none z Y legal =
     let s : Separates marks z Y = legal .separates in
-    none (s .a) (s .b) (legal .marked (s .a) (s .a-in)) (s .b-member) (legal-apart most n marks z Y legal) (legal-offers most n marks z Y legal)
+    none (s .a) (s .b) (legal .marked (s .a) (s .a-in)) (s .b-member) (legal-apart most n marks z Y legal)
+    (legal-offers most n marks z Y legal)
 
 -- a pair a < b both ways round is enough
 pub none-both : (most n : ℕ) (marks : List ℕ)
     → ((a b : ℕ) → Member marks a → Member marks b → a < b → (Offer most n marks a b → ⊥) × (Offer most n marks b a → ⊥))
-    → (z : ℕ) (Y : List ℕ) → Legal most n marks z Y → ⊥
+    → NoneLegal most n marks
 none-both most n marks none = none-offered most n marks (λ a b ma mb ne. go a b ma mb ne (decLt a b))
   where
     go : (a b : ℕ) → Member marks a → Member marks b → a ≢ b → Dec (a < b) → Offer most n marks a b → ⊥
@@ -204,9 +210,10 @@ none-both most n marks none = none-offered most n marks (λ a b ma mb ne. go a b
 pub none-reached : (size n most : ℕ) → 2 ^ n ≤ size → (marks : List ℕ) → SoundMarks size n marks
     → (low : ℕ → ℕ) → ((z : ℕ) → z ≢ 0 → z < 2 ^ n → (low z < n) × (bit z (low z) ≡ 1))
     → ((a b : ℕ) → Member marks a → Member marks b → a ≢ b → Reach most n (low (bitXor a b)) marks a b → ⊥)
-    → (z : ℕ) (Y : List ℕ) → Legal most n marks z Y → ⊥
+    → NoneLegal most n marks
 none-reached size n most room marks sound low is-low none =
     none-offered most n marks
     (λ a b ma mb ne o.
-    let h = is-low (bitXor a b) (λ e. ne (xor-equal a b e)) (xor-lt n a b (member-lt size n marks sound a ma) (member-lt size n marks sound b mb)) in
+    let h = is-low (bitXor a b) (λ e. ne (xor-equal a b e))
+    (xor-lt n a b (member-lt size n marks sound a ma) (member-lt size n marks sound b mb)) in
     none a b ma mb ne (reach size n most room marks sound a b (low (bitXor a b)) ma mb (h .0) (h .1) o))

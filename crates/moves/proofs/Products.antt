@@ -104,7 +104,8 @@ product-bit (suc n) p i j h l = go (ℕ-discrete j n) (λ k. product-bit n p i j
     go : Dec (j ≡ n) → (j < n → bit (product n p) (tri j + i) ≡ bit p i * bit p j) → bit (product (suc n) p) (tri j + i) ≡ bit p i * bit p j
     go (yes e) r = rw (e, product-next n p) (bit-up (row n p) (tri n) (product n p) i (product-lt n p) ∙ row-bit n p i (omega arith))
     go (no ne) r =
-        rw (product-next n p) (bit-low (row n p) (tri n) (product n p) (tri j + i) (product-lt n p) (place-lt n i j h (omega arith)) ∙ r (omega arith))
+        rw (product-next n p)
+        (bit-low (row n p) (tri n) (product n p) (tri j + i) (product-lt n p) (place-lt n i j h (omega arith)) ∙ r (omega arith))
 
 -- a number with this rule on bits is the entry
 pub product-by-bits : (n p x : ℕ) → x < 2 ^ tri n → ((i j : ℕ) → i ≤ j → j < n → bit x (tri j + i) ≡ bit p i * bit p j) → x ≡ product n p

@@ -173,12 +173,14 @@ module _ (f : ℕ → ℕ) (marks : (p : ℕ) → f p < 2) where
   -- p stands in it as often as f says
   pub listed-occ : (k p : ℕ) → p < k → occ p (listed k f) ≡ f p
   listed-occ k p l =
-      listed-sum k (delta p) ∙ sum-single k p (λ q. f q * delta p q) l (λ q g ne. rw (delta-other p q ne) (omega arith)) ∙ rw (delta-same p) (omega arith)
+      listed-sum k (delta p) ∙ sum-single k p (λ q. f q * delta p q) l (λ q g ne. rw (delta-other p q ne) (omega arith))
+      ∙ rw (delta-same p) (omega arith)
 
   -- and from k up not at all
   pub listed-beyond : (k p : ℕ) → k ≤ p → occ p (listed k f) ≡ 0
   listed-beyond k p h =
-      listed-sum k (delta p) ∙ sum-ext k (λ q. f q * delta p q) (λ q. 0) (λ q l. rw (delta-other p q (omega arith)) (omega arith)) ∙ sum-zero k
+      listed-sum k (delta p) ∙ sum-ext k (λ q. f q * delta p q) (λ q. 0) (λ q l. rw (delta-other p q (omega arith)) (omega arith))
+      ∙ sum-zero k
 
   pub listed-le : (k p : ℕ) → occ p (listed k f) ≤ f p
   listed-le k p = go (decLt p k)

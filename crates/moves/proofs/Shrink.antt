@@ -21,7 +21,8 @@ use Rattle.moves.proofs.Sets.{in-occ, occ, occ-in, occ-once, occ-out, r
 use Rattle.moves.specs.CarryOut.{carryOut}
 use Rattle.moves.specs.Move.{Legal, Separates}
 
-pub members-below : (size n : ℕ) (marks : List ℕ) → 2 ^ n ≤ size → SoundMarks size n marks → members marks ≡ sum (2 ^ n) (λ p. weight marks p)
+pub members-below : (size n : ℕ) (marks : List ℕ) → 2 ^ n ≤ size → SoundMarks size n marks
+    → members marks ≡ sum (2 ^ n) (λ p. weight marks p)
 unfolding members
 members-below size n marks room s =
     let e : length marks ≡ size = s .long in
@@ -37,7 +38,8 @@ pair-le zero (suc (suc m′)) o o′ h h′ l l′ = absurd (omega arith)
 pair-le (suc zero) (suc (suc m′)) o o′ h h′ l l′ = absurd (omega arith)
 pair-le (suc (suc m)) m′ o o′ h h′ l l′ = absurd (omega arith)
 
-module _ (size n most : ℕ) (room : 2 ^ n ≤ size) (marks : List ℕ) (sound : SoundMarks size n marks) (z : ℕ) (Y : List ℕ) (legal : Legal most n marks z Y) where
+module _ (size n most : ℕ) (room : 2 ^ n ≤ size) (marks : List ℕ) (sound : SoundMarks size n marks) (z : ℕ) (Y : List ℕ)
+    (legal : Legal most n marks z Y) where
   m : ℕ → ℕ
   m p = weight marks p
 
@@ -58,7 +60,8 @@ module _ (size n most : ℕ) (room : 2 ^ n ≤ size) (marks : List ℕ) (sound :
   unfolding m₁ m
   step-le p l =
       rw (xor-cancel p z)
-      (pair-le (m p) (m (bitXor p z)) (occ p Y) (occ (bitXor p z) Y) (sound .bits p) (sound .bits (bitXor p z)) (occ-le p) (occ-le (bitXor p z)))
+      (pair-le (m p) (m (bitXor p z)) (occ p Y) (occ (bitXor p z) Y)
+      (sound .bits p) (sound .bits (bitXor p z)) (occ-le p) (occ-le (bitXor p z)))
 
   open Separates (legal .separates) using (a, b, a-in, b-member, b-out, z-is)
 
@@ -93,7 +96,8 @@ module _ (size n most : ℕ) (room : 2 ^ n ≤ size) (marks : List ℕ) (sound :
       go : Dec (p ≡ 0) → Dec (p ≡ z) → weight (carryOut marks z Y) p ≤ m₁ p + delta z p
       go (yes e) d = rw (e, clear-carryOut marks z Y) zero-le
       go (no ne) (yes e) = rw (now ne, e, delta-same z) (small _ _)
-      go (no ne) (no d) = rw (now ne, delta-other p z (λ e. d (sym e)), mul-zero (length Y), add-zero (occ p Y + occ (bitXor p z) Y)) (omega arith)
+      go (no ne) (no d) =
+          rw (now ne, delta-other p z (λ e. d (sym e)), mul-zero (length Y), add-zero (occ p Y + occ (bitXor p z) Y)) (omega arith)
 
   pub shrinks : members (carryOut marks z Y) + 1 ≤ members marks
   unfolding m
@@ -103,7 +107,8 @@ module _ (size n most : ℕ) (room : 2 ^ n ≤ size) (marks : List ℕ) (sound :
         arith,
         members-below size n marks room sound,
         members-below size n (carryOut marks z Y) room (sound-kept size n most room marks sound z Y legal),
-        pairs-drop n z a m m₁ zl z-some (member-lt size n marks sound a (a-member size n most room marks sound z Y legal)) step-le step-strict,
+        pairs-drop n z a m m₁ zl z-some
+            (member-lt size n marks sound a (a-member size n most room marks sound z Y legal)) step-le step-strict,
         sum-le (2 ^ n) (λ p. weight (carryOut marks z Y) p) (λ p. m₁ p + delta z p) after-le,
         sum-add (2 ^ n) m₁ (delta z),
         sum-delta (2 ^ n) z zl,

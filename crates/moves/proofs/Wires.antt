@@ -21,7 +21,8 @@ sound-wires size n N marks h s =
     record { long = s .long; bits = s .bits; none = s .none; high = λ p l. s .high p (omega (arith, pow-mono {i = n} {j = N} h)) }
 
 triple-beyond : (n z i j k y : ℕ) → z < 2 ^ n → y < 2 ^ n → n ≤ k → triple z i j k y ≡ 0
-triple-beyond n z i j k y hz hy l = rw (bit-beyond n z k hz l, bit-beyond n y k hy l) (none (bit z i * bit y j) (bit z j * bit y i) (bit y i) (bit y j))
+triple-beyond n z i j k y hz hy l =
+    rw (bit-beyond n z k hz l, bit-beyond n y k hy l) (none (bit z i * bit y j) (bit z j * bit y i) (bit y i) (bit y j))
   where
     none : (a b c d : ℕ) → (a * 0 + b * 0 + 0 * c * d) % 2 ≡ 0
     none a b c d = let e : a * 0 + b * 0 + 0 * c * d ≡ 0 = omega arith in rw e
@@ -37,10 +38,23 @@ balanced-wires n N z Y h hz hy = (
     at b i j k l g (no f) =
         ap (λ (x : ℕ). x % 2) (sumOver-none (triple z i j k) Y (λ p q. triple-beyond n z i j k (getD Y p 0) hz (hy p q) (omega arith)))
 
-pub legal-wires : (size n N most : ℕ) (marks : List ℕ) → n ≤ N → SoundMarks size n marks → (z : ℕ) (Y : List ℕ) → Legal most n marks z Y ↔ Legal most N marks z Y
+pub legal-wires : (size n N most : ℕ) (marks : List ℕ) → n ≤ N → SoundMarks size n marks → (z : ℕ) (Y : List ℕ)
+    → Legal most n marks z Y ↔ Legal most N marks z Y
 legal-wires size n N most marks h sound z Y = (
-  λ g. record { few = g .few; ordered = g .ordered; marked = g .marked; separates = g .separates; balanced = both (g .marked) (g .separates) .0 (g .balanced) },
-  λ g. record { few = g .few; ordered = g .ordered; marked = g .marked; separates = g .separates; balanced = both (g .marked) (g .separates) .1 (g .balanced) },
+  λ g. record {
+    few = g .few;
+    ordered = g .ordered;
+    marked = g .marked;
+    separates = g .separates;
+    balanced = both (g .marked) (g .separates) .0 (g .balanced);
+  },
+  λ g. record {
+    few = g .few;
+    ordered = g .ordered;
+    marked = g .marked;
+    separates = g .separates;
+    balanced = both (g .marked) (g .separates) .1 (g .balanced);
+  },
 )
   where
     both : ((y : ℕ) → In y Y → Member marks y) → Separates marks z Y → Balanced n z Y ↔ Balanced N z Y

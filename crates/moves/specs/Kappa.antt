@@ -1,4 +1,5 @@
--- The column of a parity y for one z, in which the finder eliminates: for n wires, with t a wire of z. It is a device of ours, and no part of document 01.
+-- The column of a parity y for one z, in which the finder eliminates: for n wires, with t a wire of z.
+-- It is a device of ours, and no part of document 01.
 use Prim.Native.Nat.{_*_, _+_, _^_, ℕ}
 use lib.Bits.{bitXor}
 use Rattle.gf2.specs.Bit.{bit}

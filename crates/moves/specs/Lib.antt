@@ -7,3 +7,4 @@ pub mod Decide
 pub mod Product
 pub mod Kappa
 pub mod Pair
+pub mod Search

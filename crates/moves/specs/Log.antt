@@ -1,8 +1,9 @@
--- Document 01, "Legal moves": the cells of a move, a log of moves, and move k of a log. `most` is the most that Y may have, `size` the cells of a move.
+-- Document 01, "Legal moves": the cells of a move, a log of moves, and move k of a log.
+-- `most` is the most that Y may have, `size` the cells of a move.
 use mathlib.Core.Bool.{cond}
 use mathlib.Core.List.{List, [], _++_, _∷_}
 use mathlib.Core.Path.{_≡_}
-use Prim.Native.Nat.{_*_, _+_, _-_, suc, zero, ℕ}
+use Prim.Native.Nat.{_*_, _+_, _-_, _<_, _≤_, suc, zero, ℕ}
 use lib.Dec.{leb}
 use lib.ListN.{drop, getD, length, replicate, take}
 use Rattle.moves.specs.Move.{Legal}
@@ -17,6 +18,16 @@ zOf cells = getD cells 0 0
 
 abbrev pub setOf : List ℕ → List ℕ
 setOf cells = take (getD cells 1 0) (drop 2 cells)
+
+-- the cells from a place on are zeros
+abbrev pub ZeroFrom : ℕ → List ℕ → Type 0
+ZeroFrom start cells = (i : ℕ) → start ≤ i → i < length cells → getD cells i 0 ≡ 0
+
+-- the cells of some move: z, the number in Y, at most `most` in Y, zeros
+pub record MoveForm (most : ℕ) (cells : List ℕ) : Type 0 where
+  pub long : length cells ≡ most + 2
+  pub few : getD cells 1 0 ≤ most
+  pub zeros : ZeroFrom (getD cells 1 0 + 2) cells
 
 -- the cells are those of a legal move for these marks
 pub record LegalCells (most n : ℕ) (marks cells : List ℕ) : Type 0 where

@@ -1,4 +1,5 @@
--- Document 01, "Legal moves": a move is a number z and a set Y of members of the odd set; when it is legal. `most` is the most that Y may have.
+-- Document 01, "Legal moves": a move is a number z and a set Y of members of the odd set; when it is legal.
+-- `most` is the most that Y may have.
 use mathlib.Core.List.{List}
 use mathlib.Core.Path.{_≡_}
 use Prim.Native.Nat.{_%_, _*_, _+_, _<_, _≤_, ℕ}
@@ -38,3 +39,7 @@ pub record Legal (most n : ℕ) (marks : List ℕ) (z : ℕ) (Y : List ℕ) : Ty
   pub marked : (y : ℕ) → In y Y → Member marks y
   pub separates : Separates marks z Y
   pub balanced : Balanced n z Y
+
+-- no z and Y make a legal move for these marks
+abbrev pub NoneLegal : ℕ → ℕ → List ℕ → Type 0
+NoneLegal most n marks = (z : ℕ) (Y : List ℕ) → Legal most n marks z Y → ⊥

@@ -35,10 +35,10 @@ pub record Reach (most n t : ℕ) (marks : List ℕ) (a b : ℕ) : Type 0 where
   pub reaches : xorAll (map (kappa n (bitXor a b) t) W) ≡ kappa n (bitXor a b) t a
 
 -- the marks of the members of those slots below k that m names, each toggled, of `size` marks
-unfoldable pub spell : ℕ → List ℕ → ℕ → ℕ → List ℕ
-spell size member m zero = replicate size 0
-spell size member m (suc k) = flipIf (bit m k) (spell size member m k) (getD member k 0)
+unfoldable pub named : ℕ → List ℕ → ℕ → ℕ → List ℕ
+named size member m zero = replicate size 0
+named size member m (suc k) = flipIf (bit m k) (named size member m k) (getD member k 0)
 
 -- the set Y that a mask of N slots gives for a: the members that it names, and a
-abbrev pub spelled : ℕ → List ℕ → ℕ → ℕ → ℕ → List ℕ
-spelled size member m N a = listed size (λ p. getD (flip (spell size member m N) a) p 0)
+abbrev pub namedSet : ℕ → List ℕ → ℕ → ℕ → ℕ → List ℕ
+namedSet size member m N a = listed size (λ p. getD (flip (named size member m N) a) p 0)

@@ -18,7 +18,10 @@ module _ (n : ℕ) (v u : List ℕ) (r : ℕ → ℕ) (wv : Wide n v) (wu : Wide
   added-l i h = weightedSum-added n v u r wv wu is (λ p. bit p i) ∙ ap (λ (t : ℕ). (L u i + t) % 8) (sum-with-one n r few i h)
 
   pub added-q : (i j : ℕ) → i < j → j < n → Q v i j % 8 ≡ (Q u i j + r (2 ^ i + 2 ^ j)) % 8
-  added-q i j h g = weightedSum-added n v u r wv wu is (λ p. bit p i * bit p j) ∙ ap (λ (t : ℕ). (Q u i j + t) % 8) (sum-with-two n r few i j h g)
+  added-q i j h g =
+      weightedSum-added n v u r wv wu is (λ p. bit p i * bit p j) ∙ ap (λ (t : ℕ). (Q u i j + t) % 8) (sum-with-two n r few i j h g)
 
   pub added-c : (i j k : ℕ) → i < j → j < k → C v i j k % 8 ≡ (C u i j k + 0) % 8
-  added-c i j k h g = weightedSum-added n v u r wv wu is (λ p. bit p i * bit p j * bit p k) ∙ ap (λ (t : ℕ). (C u i j k + t) % 8) (sum-with-three n r few i j k h g)
+  added-c i j k h g =
+      weightedSum-added n v u r wv wu is (λ p. bit p i * bit p j * bit p k)
+      ∙ ap (λ (t : ℕ). (C u i j k + t) % 8) (sum-with-three n r few i j k h g)

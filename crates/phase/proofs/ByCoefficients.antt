@@ -38,16 +38,20 @@ module _ (w : List ℕ) (n x : ℕ) where
       ap (λ (s : ℕ). s % 4) (sym (sum-scale n 3 (λ j. sum j (λ i. bit x i * bit x j * Q w i j))))
       ∙ sum-mod 4 n (λ j. 3 * sum j (λ i. bit x i * bit x j * Q w i j)) (λ j. sum j (λ i. bit x i * bit x j * q w i j))
       (λ j lj. ap (λ (s : ℕ). s % 4) (sym (sum-scale j 3 (λ i. bit x i * bit x j * Q w i j)))
-      ∙ sum-mod 4 j (λ i. 3 * (bit x i * bit x j * Q w i j)) (λ i. bit x i * bit x j * q w i j) (λ i li. term (bit x i * bit x j) (Q w i j)))
+      ∙ sum-mod 4 j (λ i. 3 * (bit x i * bit x j * Q w i j)) (λ i. bit x i * bit x j * q w i j)
+      (λ i li. term (bit x i * bit x j) (Q w i j)))
     where
       term : (a s : ℕ) → 3 * (a * s) % 4 ≡ a * ((4 - s % 4) % 4) % 4
       term a s = rw (minus4 s, mul-mod-r 4 a (3 * s)) (ap (λ (t : ℕ). t % 4) (omega arith))
 
-  triples : sum n (λ k. sum k (λ j. sum j (λ i. bit x i * bit x j * bit x k * C w i j k))) % 2 ≡ sum n (λ k. sum k (λ j. sum j (λ i. bit x i * bit x j * bit x k * c w i j k))) % 2
+  triples : sum n (λ k. sum k (λ j. sum j (λ i. bit x i * bit x j * bit x k * C w i j k))) % 2
+      ≡ sum n (λ k. sum k (λ j. sum j (λ i. bit x i * bit x j * bit x k * c w i j k))) % 2
   unfolding c
   triples =
-      sum-mod 2 n (λ k. sum k (λ j. sum j (λ i. bit x i * bit x j * bit x k * C w i j k))) (λ k. sum k (λ j. sum j (λ i. bit x i * bit x j * bit x k * c w i j k)))
-      (λ k lk. sum-mod 2 k (λ j. sum j (λ i. bit x i * bit x j * bit x k * C w i j k)) (λ j. sum j (λ i. bit x i * bit x j * bit x k * c w i j k))
+      sum-mod 2 n (λ k. sum k (λ j. sum j (λ i. bit x i * bit x j * bit x k * C w i j k)))
+      (λ k. sum k (λ j. sum j (λ i. bit x i * bit x j * bit x k * c w i j k)))
+      (λ k lk. sum-mod 2 k (λ j. sum j (λ i. bit x i * bit x j * bit x k * C w i j k))
+      (λ j. sum j (λ i. bit x i * bit x j * bit x k * c w i j k))
       (λ j lj. sum-mod 2 j (λ i. bit x i * bit x j * bit x k * C w i j k) (λ i. bit x i * bit x j * bit x k * c w i j k)
       (λ i li. sym (mul-mod-r 2 (bit x i * bit x j * bit x k) (C w i j k)))))
 
@@ -56,7 +60,8 @@ module _ (w : List ℕ) (n x : ℕ) where
   singles = sum-mod 8 n (λ i. bit x i * L w i) (λ i. bit x i * l w i) (λ i li. sym (mul-mod-r 8 (bit x i) (L w i)))
 
   by-sums : phaseAt n w x
-      ≡ (sum n (λ i. bit x i * L w i) + 6 * sum n (λ j. sum j (λ i. bit x i * bit x j * Q w i j)) + 4 * sum n (λ k. sum k (λ j. sum j (λ i. bit x i * bit x j * bit x k * C w i j k)))) % 8
+      ≡ (sum n (λ i. bit x i * L w i) + 6 * sum n (λ j. sum j (λ i. bit x i * bit x j * Q w i j))
+      + 4 * sum n (λ k. sum k (λ j. sum j (λ i. bit x i * bit x j * bit x k * C w i j k)))) % 8
   unfolding phaseAt weightedSum firstMoment secondMoment thirdMoment parities
   by-sums = parities-by-moments (length w) (λ p. getD w p 0) n x
 
@@ -67,7 +72,8 @@ phase-by-coefficients n w x =
     by-sums w n x
     ∙ join (sum n (λ i. bit x i * L w i)) (sum n (λ i. bit x i * l w i))
     (sum n (λ j. sum j (λ i. bit x i * bit x j * Q w i j))) (sum n (λ j. sum j (λ i. bit x i * bit x j * q w i j)))
-    (sum n (λ k. sum k (λ j. sum j (λ i. bit x i * bit x j * bit x k * C w i j k)))) (sum n (λ k. sum k (λ j. sum j (λ i. bit x i * bit x j * bit x k * c w i j k))))
+    (sum n (λ k. sum k (λ j. sum j (λ i. bit x i * bit x j * bit x k * C w i j k))))
+    (sum n (λ k. sum k (λ j. sum j (λ i. bit x i * bit x j * bit x k * c w i j k))))
     (singles w n x) (pairs w n x) (triples w n x)
 
 -- equal coefficients, equal phases
@@ -80,9 +86,12 @@ same-phases n v w s x = phase-by-coefficients n v x ∙ by ∙ sym (phase-by-coe
         sums _ _ _ _ _ _
         (sum-ext n (λ i. bit x i * l v i) (λ i. bit x i * l w i) (λ i li. ap (λ (t : ℕ). bit x i * t) (s .same-l i li)))
         (sum-ext n (λ j. sum j (λ i. bit x i * bit x j * q v i j)) (λ j. sum j (λ i. bit x i * bit x j * q w i j))
-        (λ j lj. sum-ext j (λ i. bit x i * bit x j * q v i j) (λ i. bit x i * bit x j * q w i j) (λ i li. ap (λ (t : ℕ). bit x i * bit x j * t) (s .same-q i j li lj))))
-        (sum-ext n (λ k. sum k (λ j. sum j (λ i. bit x i * bit x j * bit x k * c v i j k))) (λ k. sum k (λ j. sum j (λ i. bit x i * bit x j * bit x k * c w i j k)))
-        (λ k lk. sum-ext k (λ j. sum j (λ i. bit x i * bit x j * bit x k * c v i j k)) (λ j. sum j (λ i. bit x i * bit x j * bit x k * c w i j k))
+        (λ j lj. sum-ext j (λ i. bit x i * bit x j * q v i j) (λ i. bit x i * bit x j * q w i j)
+        (λ i li. ap (λ (t : ℕ). bit x i * bit x j * t) (s .same-q i j li lj))))
+        (sum-ext n (λ k. sum k (λ j. sum j (λ i. bit x i * bit x j * bit x k * c v i j k)))
+        (λ k. sum k (λ j. sum j (λ i. bit x i * bit x j * bit x k * c w i j k)))
+        (λ k lk. sum-ext k (λ j. sum j (λ i. bit x i * bit x j * bit x k * c v i j k))
+        (λ j. sum j (λ i. bit x i * bit x j * bit x k * c w i j k))
         (λ j lj. sum-ext j (λ i. bit x i * bit x j * bit x k * c v i j k) (λ i. bit x i * bit x j * bit x k * c w i j k)
         (λ i li. ap (λ (t : ℕ). bit x i * bit x j * bit x k * t) (s .same-c i j k li lj lk)))))
       where

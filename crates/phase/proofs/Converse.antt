@@ -30,7 +30,13 @@ parity-two n i j p h hj = rw (← two-is-xor i j h, parity-xor-r n p (2 ^ i) (2 
 
 parity-three : (n i j k p : ℕ) → i < j → j < k → k < n → parity n p (2 ^ i + 2 ^ j + 2 ^ k) ≡ ((bit p i + bit p j) % 2 + bit p k) % 2
 parity-three n i j k p h g hk =
-    rw (← three-is-xor i j k h g, parity-xor-r n p (bitXor (2 ^ i) (2 ^ j)) (2 ^ k), two-is-xor i j h, parity-two n i j p h (omega arith), parity-one n k p hk)
+    rw (
+      ← three-is-xor i j k h g,
+      parity-xor-r n p (bitXor (2 ^ i) (2 ^ j)) (2 ^ k),
+      two-is-xor i j h,
+      parity-two n i j p h (omega arith),
+      parity-one n k p hk,
+    )
 
 -- one parity of two and of three bits, as numbers, times a weight m
 weighed-two : (m a b : ℕ) → a < 2 → b < 2 → m * ((a + b) % 2) + 2 * (m * (a * b)) ≡ m * a + m * b
@@ -64,7 +70,9 @@ module _ (w : List ℕ) where
         sum-add M (λ p. m p * bit p i) (λ p. m p * bit p j),
       )
 
-  three-wires : (i j k : ℕ) → weightedSum w (λ p. ((bit p i + bit p j) % 2 + bit p k) % 2) + 2 * (Q w i j + Q w i k + Q w j k) ≡ L w i + L w j + L w k + 4 * C w i j k
+  three-wires : (i j k : ℕ)
+      → weightedSum w (λ p. ((bit p i + bit p j) % 2 + bit p k) % 2) + 2 * (Q w i j + Q w i k + Q w j k)
+      ≡ L w i + L w j + L w k + 4 * C w i j k
   unfolding weightedSum
   three-wires i j k =
       let M : ℕ = length w in
@@ -96,7 +104,8 @@ module _ (w : List ℕ) where
   unfolding phaseAt
   phase-two n i j h hj =
       mod-add-mod (weightedSum w (λ p. parity n p (2 ^ i + 2 ^ j))) 8 (2 * Q w i j)
-      ∙ ap (λ (t : ℕ). (t + 2 * Q w i j) % 8) (weightedSum-ext w (λ p. parity n p (2 ^ i + 2 ^ j)) (λ p. (bit p i + bit p j) % 2) (λ p. parity-two n i j p h hj))
+      ∙ ap (λ (t : ℕ). (t + 2 * Q w i j) % 8)
+      (weightedSum-ext w (λ p. parity n p (2 ^ i + 2 ^ j)) (λ p. (bit p i + bit p j) % 2) (λ p. parity-two n i j p h hj))
       ∙ ap (λ (t : ℕ). t % 8) (two-wires i j)
 
   phase-three : (n i j k : ℕ) → i < j → j < k → k < n
@@ -106,16 +115,19 @@ module _ (w : List ℕ) where
       let s : ℕ = 2 * (Q w i j + Q w i k + Q w j k) in
       mod-add-mod (weightedSum w (λ p. parity n p (2 ^ i + 2 ^ j + 2 ^ k))) 8 s
       ∙ ap (λ (t : ℕ). (t + s) % 8)
-      (weightedSum-ext w (λ p. parity n p (2 ^ i + 2 ^ j + 2 ^ k)) (λ p. ((bit p i + bit p j) % 2 + bit p k) % 2) (λ p. parity-three n i j k p h g hk))
+      (weightedSum-ext w (λ p. parity n p (2 ^ i + 2 ^ j + 2 ^ k)) (λ p. ((bit p i + bit p j) % 2 + bit p k) % 2)
+      (λ p. parity-three n i j k p h g hk))
       ∙ ap (λ (t : ℕ). t % 8) (three-wires i j k)
 
 -- cancelling, modulo 8
 cancel-two : (f f′ s s′ a : ℕ) → f ≡ f′ → (f + 2 * s) % 8 ≡ a → (f′ + 2 * s′) % 8 ≡ a → s % 4 ≡ s′ % 4
 cancel-two f f′ s s′ a e h h′ = cong-by 4 ((f′ + 2 * s′) / 8) ((f + 2 * s) / 8) s s′ (omega arith)
 
-cancel-three : (a a′ s s′ d d′ f f′ : ℕ) → f ≡ f′ → a % 8 ≡ a′ % 8 → s % 4 ≡ s′ % 4 → (f + 2 * s) % 8 ≡ (a + 4 * d) % 8 → (f′ + 2 * s′) % 8 ≡ (a′ + 4 * d′) % 8 → d % 2 ≡ d′ % 2
+cancel-three : (a a′ s s′ d d′ f f′ : ℕ) → f ≡ f′ → a % 8 ≡ a′ % 8 → s % 4 ≡ s′ % 4 → (f + 2 * s) % 8 ≡ (a + 4 * d) % 8
+    → (f′ + 2 * s′) % 8 ≡ (a′ + 4 * d′) % 8 → d % 2 ≡ d′ % 2
 cancel-three a a′ s s′ d d′ f f′ e ha hs h h′ =
-    cong-by 2 (s′ / 4 + a / 8 + (f + 2 * s) / 8 + (a′ + 4 * d′) / 8) (s / 4 + a′ / 8 + (a + 4 * d) / 8 + (f′ + 2 * s′) / 8) d d′ (omega arith)
+    cong-by 2 (s′ / 4 + a / 8 + (f + 2 * s) / 8 + (a′ + 4 * d′) / 8)
+    (s / 4 + a′ / 8 + (a + 4 * d) / 8 + (f′ + 2 * s′) / 8) d d′ (omega arith)
 
 module _ (n : ℕ) (v w : List ℕ) (same : SameAtThree n v w) where
   pub back-l : (i : ℕ) → i < n → L v i % 8 ≡ L w i % 8
@@ -124,16 +136,19 @@ module _ (n : ℕ) (v w : List ℕ) (same : SameAtThree n v w) where
   pub back-q : (i j : ℕ) → i < j → j < n → Q v i j % 4 ≡ Q w i j % 4
   back-q i j h k =
       let hi : i < n = omega arith in
-      cancel-two (phaseAt n v (2 ^ i + 2 ^ j)) (phaseAt n w (2 ^ i + 2 ^ j)) (Q v i j) (Q w i j) ((L w i + L w j) % 8) (same .at-two i j h k)
+      cancel-two (phaseAt n v (2 ^ i + 2 ^ j)) (phaseAt n w (2 ^ i + 2 ^ j)) (Q v i j) (Q w i j) ((L w i + L w j) % 8)
+      (same .at-two i j h k)
       (phase-two v n i j h k ∙ add-cong 8 (L v i) (L w i) (L v j) (L w j) (back-l i hi) (back-l j k)) (phase-two w n i j h k)
 
   pub back-c : (i j k : ℕ) → i < j → j < k → k < n → C v i j k % 2 ≡ C w i j k % 2
   back-c i j k h g hk =
       let hj : j < n = omega arith in
       let hi : i < n = omega arith in
-      cancel-three (L v i + L v j + L v k) (L w i + L w j + L w k) (Q v i j + Q v i k + Q v j k) (Q w i j + Q w i k + Q w j k) (C v i j k) (C w i j k)
+      cancel-three (L v i + L v j + L v k) (L w i + L w j + L w k)
+      (Q v i j + Q v i k + Q v j k) (Q w i j + Q w i k + Q w j k) (C v i j k) (C w i j k)
       (phaseAt n v (2 ^ i + 2 ^ j + 2 ^ k)) (phaseAt n w (2 ^ i + 2 ^ j + 2 ^ k)) (same .at-three i j k h g hk)
-      (add-cong 8 (L v i + L v j) (L w i + L w j) (L v k) (L w k) (add-cong 8 (L v i) (L w i) (L v j) (L w j) (back-l i hi) (back-l j hj)) (back-l k hk))
+      (add-cong 8 (L v i + L v j) (L w i + L w j) (L v k) (L w k)
+      (add-cong 8 (L v i) (L w i) (L v j) (L w j) (back-l i hi) (back-l j hj)) (back-l k hk))
       (add-cong 4 (Q v i j + Q v i k) (Q w i j + Q w i k) (Q v j k) (Q w j k)
       (add-cong 4 (Q v i j) (Q w i j) (Q v i k) (Q w i k) (back-q i j h hj) (back-q i k (omega arith) hk)) (back-q j k g hk))
       (phase-three v n i j k h g hk) (phase-three w n i j k h g hk)

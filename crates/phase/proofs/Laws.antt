@@ -1,4 +1,5 @@
--- The laws of phases on one page, for every n. `size` is the number of weights. The definitions are in specs/, the proofs in the modules named.
+-- The laws of phases on one page, for every n. `size` is the number of weights.
+-- The definitions are in specs/, the proofs in the modules named.
 use mathlib.Core.List.{List}
 use mathlib.Core.Logic.{_↔_}
 use mathlib.Core.Path.{_≡_}
@@ -39,7 +40,8 @@ odd-set-is-sound = odd-sound
 
 module _ (size n : ℕ) (room : 2 ^ n ≤ size) where
   -- (c) equal signature, exactly where the phases differ by what even weights alone can make
-  pub same-signature-even-apart : (v w : List ℕ) → SoundWeights size n v → SoundWeights size n w → SameSignature n v w ↔ EvenApart size n v w
+  pub same-signature-even-apart : (v w : List ℕ) → SoundWeights size n v → SoundWeights size n w
+      → SameSignature n v w ↔ EvenApart size n v w
   same-signature-even-apart v w sv sw =
       let a = signature-sums n v w in
       let b = signature-iff size n room v w sv sw in
@@ -65,5 +67,6 @@ module _ (size n : ℕ) (room : 2 ^ n ≤ size) where
       new-weights-shape = new-shape size n room w marks sound sums
 
     -- (e) the rest is unique: sound weights of that shape with the phases of w are these
-    pub new-weights-unique : (v : List ℕ) → SoundWeights size n v → MarksAndRest n marks v → SamePhases n v w → v ≡ newWeights size n w marks
+    pub new-weights-unique : (v : List ℕ) → SoundWeights size n v → MarksAndRest n marks v → SamePhases n v w
+        → v ≡ newWeights size n w marks
     new-weights-unique v = new-unique size n room w marks v (marks-weights size n marks sound)

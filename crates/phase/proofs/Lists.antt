@@ -1,7 +1,7 @@
 -- Weights as lists: sums over a list are sums over the 2 ^ n parities; a list made by `pad`; and sums over weights that are added modulo 8.
 use mathlib.Core.List.{_++_, List}
-use mathlib.Core.Path.{_≡_, ap, refl, sym, _∙_}
-use Prim.Native.Nat.{_%_, _*_, _+_, _-_, _<_, _^_, suc, zero, ℕ, _≤_}
+use mathlib.Core.Path.{_≡_, ap, sym, _∙_}
+use Prim.Native.Nat.{_%_, _*_, _+_, _-_, _<_, _^_, ℕ, _≤_}
 use native.Mathlib.Decide.{decLt}
 use native.Mathlib.Omega.{arith}
 use lib.ListN.{List·getD-append, getD, length, length-append, length-replicate, replicate}
@@ -11,7 +11,7 @@ use Rattle.circuit.specs.OddSet.{oddSet}
 use Rattle.circuit.specs.Sound.{SoundMarks, SoundWeights, weight}
 use Rattle.gf2.proofs.Modular.{mul-mod-l}
 use Rattle.gf2.proofs.Sum.{sum-add, sum-append, sum-ext, sum-mod, sum-zero}
-use Rattle.gf2.proofs.Table.{getD-tabulate, length-tabulate}
+use Rattle.gf2.proofs.Table.{getD-tabulate, getD-zeros, length-tabulate}
 use Rattle.gf2.specs.Sum.{sum}
 use Rattle.gf2.specs.Table.{tabulate, weightedSum}
 use Rattle.phase.specs.NewWeights.{pad}
@@ -53,19 +53,22 @@ weightedSum-wide n w s f =
 
 -- ---- pad
 
-getD-zeros : (k i : ℕ) → _≡_ {A = ℕ} (getD (replicate k 0) i 0) 0
-getD-zeros zero i = refl
-getD-zeros (suc k) zero = refl
-getD-zeros (suc k) (suc i) = getD-zeros k i
-
 module _ (size n : ℕ) (f : ℕ → ℕ) where
   pub pad-length : 2 ^ n ≤ size → length (pad size n f) ≡ size
   unfolding pad
-  pad-length h = omega (arith, length-append (tabulate (2 ^ n) f) (replicate (size - 2 ^ n) 0), length-tabulate (2 ^ n) f, length-replicate {A = ℕ} (size - 2 ^ n) 0)
+  pad-length h =
+      omega (
+        arith,
+        length-append (tabulate (2 ^ n) f) (replicate (size - 2 ^ n) 0),
+        length-tabulate (2 ^ n) f,
+        length-replicate {A = ℕ} (size - 2 ^ n) 0,
+      )
 
   pub pad-low : (p : ℕ) → p < 2 ^ n → weight (pad size n f) p ≡ f p
   unfolding pad
-  pad-low p h = List·getD-append (tabulate (2 ^ n) f) (replicate (size - 2 ^ n) 0) 0 p (omega (arith, length-tabulate (2 ^ n) f)) ∙ getD-tabulate (2 ^ n) f p h
+  pad-low p h =
+      List·getD-append (tabulate (2 ^ n) f) (replicate (size - 2 ^ n) 0) 0 p (omega (arith, length-tabulate (2 ^ n) f))
+      ∙ getD-tabulate (2 ^ n) f p h
 
   pub pad-high : (p : ℕ) → 2 ^ n ≤ p → weight (pad size n f) p ≡ 0
   unfolding pad
@@ -95,7 +98,8 @@ same-list size n v w lv lw low high = ext-getD 0 v w (lv ∙ sym lw) (λ p hp. g
     go p (no g) = high p (omega arith)
 
 -- ---- v is u with r added, modulo 8
-pub weightedSum-added : (n : ℕ) (v u : List ℕ) (r : ℕ → ℕ) → Wide n v → Wide n u → ((p : ℕ) → p < 2 ^ n → weight v p ≡ (weight u p + r p) % 8)
+pub weightedSum-added : (n : ℕ) (v u : List ℕ) (r : ℕ → ℕ) → Wide n v → Wide n u
+    → ((p : ℕ) → p < 2 ^ n → weight v p ≡ (weight u p + r p) % 8)
     → (f : ℕ → ℕ) → weightedSum v f % 8 ≡ (weightedSum u f + sum (2 ^ n) (λ p. r p * f p)) % 8
 weightedSum-added n v u r wv wu is f =
     ap (λ (t : ℕ). t % 8) (weightedSum-wide n v wv f)

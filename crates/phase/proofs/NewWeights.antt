@@ -14,7 +14,8 @@ use Rattle.gf2.specs.Sum.{sum}
 use Rattle.phase.proofs.Added.{added-c, added-l, added-q}
 use Rattle.phase.proofs.ByCoefficients.{same-phases}
 use Rattle.phase.proofs.Lists.{Wide, pad-all, pad-high, pad-length, pad-low, same-list, wide}
-use Rattle.phase.proofs.Rest.{oneRest-lt, pairRest-cases, pairRest-is, pairs-rest, rest-even, rest-many, rest-one, rest-others, rest-two, rest-zero}
+use Rattle.phase.proofs.Rest.{oneRest-lt, pairRest-cases, pairRest-is, pairs-rest, rest-even, rest-many, rest-one, rest-others}
+use Rattle.phase.proofs.Rest.{rest-two, rest-zero}
 use Rattle.phase.proofs.Sums.{C, L, Q, SameSums}
 use Rattle.phase.proofs.Wires.{is-one, is-two}
 use Rattle.phase.specs.Coefficients.{SameCoefficients, SamePhases, c, l, q}
@@ -95,8 +96,10 @@ module _ (size n : ℕ) (room : 2 ^ n ≤ size) (w u : List ℕ) (sound : SoundW
 module _ (size n : ℕ) (room : 2 ^ n ≤ size) (w marks : List ℕ) (sound : SoundMarks size n marks) (same : SameSums n marks w) where
   pub new-oddSet : oddSet (newWeights size n w marks) ≡ marks
   new-oddSet =
-      same-list size n (oddSet (newWeights size n w marks)) marks (length-odd (newWeights size n w marks) ∙ new-sound size n w marks room (sound .none) .long) (sound .long)
-      (λ p h. odd-mark (newWeights size n w marks) p ∙ ap (λ (t : ℕ). t % 2) (new-low size n w marks p h) ∙ bit-left (weight marks p) (rest n w marks p) (sound .bits p) (rest-even n w marks same p h))
+      same-list size n (oddSet (newWeights size n w marks)) marks
+      (length-odd (newWeights size n w marks) ∙ new-sound size n w marks room (sound .none) .long) (sound .long)
+      (λ p h. odd-mark (newWeights size n w marks) p ∙ ap (λ (t : ℕ). t % 2) (new-low size n w marks p h)
+      ∙ bit-left (weight marks p) (rest n w marks p) (sound .bits p) (rest-even n w marks same p h))
       (λ p h. odd-mark (newWeights size n w marks) p ∙ rw (new-high size n w marks p h) (sym (sound .high p h)))
     where
       bit-left : (m r : ℕ) → m < 2 → r % 2 ≡ 0 → (m + r) % 8 % 2 ≡ m
@@ -116,4 +119,6 @@ module _ (size n : ℕ) (room : 2 ^ n ≤ size) (w marks : List ℕ) (sound : So
       one p h e = let t = is-one n p h e in rw (t .2, rest-one w marks n (t .0) (t .1)) (oneRest-lt n w marks (t .0))
 
       two : (p : ℕ) → p < 2 ^ n → ones p ≡ 2 → (rest n w marks p ≡ 0) ⊎ (rest n w marks p ≡ 6)
-      two p h e = let t = is-two n p h e in rw (t .4, rest-two w marks n (t .0) (t .1) (t .2) (t .3)) (pairRest-cases n w marks same (t .0) (t .1) (t .2) (t .3))
+      two p h e =
+          let t = is-two n p h e in
+          rw (t .4, rest-two w marks n (t .0) (t .1) (t .2) (t .3)) (pairRest-cases n w marks same (t .0) (t .1) (t .2) (t .3))

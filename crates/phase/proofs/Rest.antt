@@ -68,7 +68,8 @@ module _ (w u : List ℕ) where
     rest-at-width k p h g = go (ones p) refl
       where
         go : (o : ℕ) → ones p ≡ o
-            → byWires o (oneRest n w u (low n p)) (pairRest w u (low n p) (next n p)) ≡ byWires o (oneRest n w u (low k p)) (pairRest w u (low k p) (next k p))
+            → byWires o (oneRest n w u (low n p)) (pairRest w u (low n p) (next n p))
+            ≡ byWires o (oneRest n w u (low k p)) (pairRest w u (low k p) (next k p))
         go zero e = refl
         go (suc zero) e = let t = is-one n p g e in rw (t .2, low-one n (t .0) (t .1), low-one k (t .0) (omega (arith, t .1)))
         go (suc (suc zero)) e =
@@ -89,7 +90,8 @@ module _ (w u : List ℕ) where
 
     -- the rests of the pairs with i, summed
     pub pairs-rest : (i : ℕ) → i < n → sum n (λ j. apart i j * rest n w u (2 ^ i + 2 ^ j)) ≡ sum n (λ j. apart i j * pairRest w u i j)
-    pairs-rest i h = sum-ext n (λ j. apart i j * rest n w u (2 ^ i + 2 ^ j)) (λ j. apart i j * pairRest w u i j) (λ j hj. go j hj (ℕ-discrete j i))
+    pairs-rest i h =
+        sum-ext n (λ j. apart i j * rest n w u (2 ^ i + 2 ^ j)) (λ j. apart i j * pairRest w u i j) (λ j hj. go j hj (ℕ-discrete j i))
       where
         go : (j : ℕ) → j < n → Dec (j ≡ i) → apart i j * rest n w u (2 ^ i + 2 ^ j) ≡ apart i j * pairRest w u i j
         go j hj (yes e) = rw (e, apart-same i) (omega arith)
@@ -127,7 +129,8 @@ module _ (n : ℕ) (w u : List ℕ) (same : SameSums n u w) where
 
   pairs-even : (i : ℕ) → i < n → sum n (λ j. apart i j * pairRest w u i j) % 2 ≡ 0
   pairs-even i h =
-      sum-mod 2 n (λ j. apart i j * pairRest w u i j) (λ j. 0) (λ j hj. go j hj (ℕ-discrete j i) (decLt i j)) ∙ ap (λ (t : ℕ). t % 2) (sum-zero n)
+      sum-mod 2 n (λ j. apart i j * pairRest w u i j) (λ j. 0) (λ j hj. go j hj (ℕ-discrete j i) (decLt i j))
+      ∙ ap (λ (t : ℕ). t % 2) (sum-zero n)
     where
       go : (j : ℕ) → j < n → Dec (j ≡ i) → Dec (i < j) → apart i j * pairRest w u i j % 2 ≡ 0
       go j hj (yes e) d = rw (e, apart-same i) (omega arith)

@@ -1,4 +1,5 @@
--- Equal signatures, by the plain sums modulo 2 ⇔ the phases differ by what even weights alone can make. And the odd set has the signature of its weights.
+-- Equal signatures, by the plain sums modulo 2 ⇔ the phases differ by what even weights alone can make.
+-- And the odd set has the signature of its weights.
 use mathlib.Core.List.{List}
 use mathlib.Core.Logic.{inl, inr, _↔_, _⊎_}
 use mathlib.Core.Path.{ap, refl, sym, _∙_, _≡_}
@@ -70,7 +71,8 @@ module _ (size n : ℕ) (room : 2 ^ n ≤ size) (v w : List ℕ) (sv : SoundWeig
           is-even = pad-all size n (rest n v w) (λ x. x % 2 ≡ 0) refl (rest-even n v w same);
           phases =
               λ x h. sym (new-phases size n room v w sw same x h)
-              ∙ phase-added n (newWeights size n v w) w (pad size n (rest n v w)) (wide size n (newWeights size n v w) room (new-sound size n v w room (sw .none)))
+              ∙ phase-added n (newWeights size n v w) w (pad size n (rest n v w))
+              (wide size n (newWeights size n v w) room (new-sound size n v w room (sw .none)))
               (wide size n w room sw) (pad-wide size n (rest n v w) room)
               (λ p hp. new-low size n v w p hp ∙ ap (λ (t : ℕ). (weight w p + t) % 8) (sym (pad-low size n (rest n v w) p hp))) x;
         }
@@ -92,7 +94,9 @@ module _ (size n : ℕ) (room : 2 ^ n ≤ size) (v w : List ℕ) (sv : SoundWeig
     ww = wide size n w room sw
 
     same-at : SameAtThree n v s
-    same-at = same-at-three n v s (λ x h. apart .phases x h ∙ sym (phase-added n s w (apart .even) ws ww (wide size n (apart .even) room (apart .even-sound)) is x))
+    same-at =
+        same-at-three n v s
+        (λ x h. apart .phases x h ∙ sym (phase-added n s w (apart .even) ws ww (wide size n (apart .even) room (apart .even-sound)) is x))
 
     even-sum : (f : ℕ → ℕ) → sum (2 ^ n) (λ p. weight (apart .even) p * f p) % 2 ≡ 0
     even-sum f =
@@ -101,7 +105,9 @@ module _ (size n : ℕ) (room : 2 ^ n ≤ size) (v w : List ℕ) (sv : SoundWeig
         ∙ ap (λ (t : ℕ). t % 2) (sum-zero (2 ^ n))
 
     sum-kept : (f : ℕ → ℕ) → weightedSum s f % 2 ≡ weightedSum w f % 2
-    sum-kept f = off (weightedSum s f) (weightedSum w f) (sum (2 ^ n) (λ p. weight (apart .even) p * f p)) (weightedSum-added n s w (weight (apart .even)) ws ww is f) (even-sum f)
+    sum-kept f =
+        off (weightedSum s f) (weightedSum w f) (sum (2 ^ n) (λ p. weight (apart .even) p * f p))
+        (weightedSum-added n s w (weight (apart .even)) ws ww is f) (even-sum f)
       where
         off : (a b e : ℕ) → a % 8 ≡ (b + e) % 8 → e % 2 ≡ 0 → a % 2 ≡ b % 2
         off a b e h g = omega arith

@@ -37,7 +37,8 @@ solve-q v x a r (inl z) e h = z ∙ rw (differ-none x a (rw z at (fall v x a r e
 solve-q v x a r (inr z) e h = z ∙ rw (differ-two x a (rw z at (fall v x a r e h)))
 
 solve-l : (v x a r s : ℕ) → r < 8 → v % 8 ≡ (x + (r + s)) % 8 → v % 8 ≡ a % 8 → r ≡ (a % 8 + 7 * (x % 8 + s)) % 8
-solve-l v x a r s small e h = sym (mod-eq-of-lt small) ∙ cong-by 8 (x + s) ((x + (r + s)) / 8 + 7 * (x / 8)) r (a % 8 + 7 * (x % 8 + s)) (omega arith)
+solve-l v x a r s small e h =
+    sym (mod-eq-of-lt small) ∙ cong-by 8 (x + s) ((x + (r + s)) / 8 + 7 * (x / 8)) r (a % 8 + 7 * (x % 8 + s)) (omega arith)
 
 module _ (size n : ℕ) (room : 2 ^ n ≤ size) (w marks v : List ℕ) (sm : SoundWeights size n marks) (sv : SoundWeights size n v)
     (shape : MarksAndRest n marks v) (same : SamePhases n v w) where
@@ -55,7 +56,8 @@ module _ (size n : ℕ) (room : 2 ^ n ≤ size) (w marks v : List ℕ) (sm : Sou
 
   added-two : (i j : ℕ) → i < j → j < n → shape .added (2 ^ i + 2 ^ j) ≡ rest n w marks (2 ^ i + 2 ^ j)
   added-two i j h g =
-      solve-q (Q v i j) (Q marks i j) (Q w i j) (shape .added (2 ^ i + 2 ^ j)) (shape .on-two (2 ^ i + 2 ^ j) (two-lt n i j h g) (ones-two i j h))
+      solve-q (Q v i j) (Q marks i j) (Q w i j) (shape .added (2 ^ i + 2 ^ j))
+      (shape .on-two (2 ^ i + 2 ^ j) (two-lt n i j h g) (ones-two i j h))
       (added-q n v marks (shape .added) wv wm (shape .is) few i j h g) (back-q n v w at-three i j h g)
       ∙ sym (rest-two w marks n i j h g ∙ pairRest-is w marks i j)
 
@@ -69,7 +71,8 @@ module _ (size n : ℕ) (room : 2 ^ n ≤ size) (w marks v : List ℕ) (sm : Sou
 
   pairs-same : (i : ℕ) → i < n → sum n (λ j. apart i j * shape .added (2 ^ i + 2 ^ j)) ≡ sum n (λ j. apart i j * pairRest w marks i j)
   pairs-same i h =
-      sum-ext n (λ j. apart i j * shape .added (2 ^ i + 2 ^ j)) (λ j. apart i j * rest n w marks (2 ^ i + 2 ^ j)) (λ j hj. go j hj (ℕ-discrete j i))
+      sum-ext n (λ j. apart i j * shape .added (2 ^ i + 2 ^ j)) (λ j. apart i j * rest n w marks (2 ^ i + 2 ^ j))
+      (λ j hj. go j hj (ℕ-discrete j i))
       ∙ pairs-rest w marks n i h
     where
       go : (j : ℕ) → j < n → Dec (j ≡ i) → apart i j * shape .added (2 ^ i + 2 ^ j) ≡ apart i j * rest n w marks (2 ^ i + 2 ^ j)

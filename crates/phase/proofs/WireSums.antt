@@ -82,7 +82,8 @@ module _ (r : ℕ → ℕ) (a : ℕ) where
       (λ i hi. rw (bit-two-other i j a hi (omega arith) (omega arith)) (omega arith)) ∙ sum-zero j)
       ∙ sum-zero n
 
-  pairs-with : (n : ℕ) → a < n → sum n (λ j. sum j (λ i. r (2 ^ i + 2 ^ j) * bit (2 ^ i + 2 ^ j) a)) ≡ sum n (λ j. apart a j * r (2 ^ a + 2 ^ j))
+  pairs-with : (n : ℕ) → a < n
+      → sum n (λ j. sum j (λ i. r (2 ^ i + 2 ^ j) * bit (2 ^ i + 2 ^ j) a)) ≡ sum n (λ j. apart a j * r (2 ^ a + 2 ^ j))
   unfolding sum
   pairs-with zero h = absurd (omega arith)
   pairs-with (suc n) h = go (ℕ-discrete n a) (λ g. pairs-with n g)
@@ -109,7 +110,8 @@ module _ (r : ℕ → ℕ) (a : ℕ) where
           ))
       go (no ne) ih =
           let g : a < n = omega arith in
-          let top : r (2 ^ a + 2 ^ n) * bit (2 ^ a + 2 ^ n) a ≡ apart a n * r (2 ^ a + 2 ^ n) = rw (bit-two-low a n g, apart-other a n ne) (omega arith) in
+          let top : r (2 ^ a + 2 ^ n) * bit (2 ^ a + 2 ^ n) a ≡ apart a n * r (2 ^ a + 2 ^ n) =
+          rw (bit-two-low a n g, apart-other a n ne) (omega arith) in
           omega (
             arith,
             ih g,
@@ -120,7 +122,8 @@ module _ (r : ℕ → ℕ) (a : ℕ) where
 
 -- r is 0 on three wires and more
 module _ (n : ℕ) (r : ℕ → ℕ) (few : (p : ℕ) → p < 2 ^ n → 2 < ones p → r p ≡ 0) where
-  weighed : (f : ℕ → ℕ) → f 0 ≡ 0 → sum (2 ^ n) (λ p. r p * f p) ≡ sum n (λ i. r (2 ^ i) * f (2 ^ i)) + sum n (λ j. sum j (λ i. r (2 ^ i + 2 ^ j) * f (2 ^ i + 2 ^ j)))
+  weighed : (f : ℕ → ℕ) → f 0 ≡ 0
+      → sum (2 ^ n) (λ p. r p * f p) ≡ sum n (λ i. r (2 ^ i) * f (2 ^ i)) + sum n (λ j. sum j (λ i. r (2 ^ i + 2 ^ j) * f (2 ^ i + 2 ^ j)))
   weighed f z = omega (arith, sum-two n (λ p. r p * f p) (λ p hp o. rw (few p hp o) (omega arith)), none)
     where
       none : r 0 * f 0 ≡ 0

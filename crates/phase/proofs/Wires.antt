@@ -1,4 +1,5 @@
--- Parities of one wire, of two and of three: 2 ^ i, 2 ^ i + 2 ^ j and 2 ^ i + 2 ^ j + 2 ^ k. How many wires they have, which is the lowest and the next, and their bits.
+-- Parities of one wire, of two and of three: 2 ^ i, 2 ^ i + 2 ^ j and 2 ^ i + 2 ^ j + 2 ^ k.
+-- How many wires they have, which is the lowest and the next, and their bits.
 use mathlib.Core.Logic.{_≢_}
 use mathlib.Core.Path.{ap, refl, sym, _∙_, _≡_}
 use Prim.Native.Nat.{_%_, _+_, _-_, _/_, _<_, _^_, suc, zero, ℕ}
@@ -56,7 +57,8 @@ unfolding ones onesIn
 is-two zero p h e = let z : p ≡ 0 = omega arith in absurd (omega (arith, ap ones z))
 is-two (suc n) p h e = go (decLt p (2 ^ n)) (λ g. is-two n p g e)
   where
-    go : Dec (p < 2 ^ n) → (p < 2 ^ n → (i : ℕ) × (j : ℕ) × (i < j) × (j < n) × (p ≡ 2 ^ i + 2 ^ j)) → (i : ℕ) × (j : ℕ) × (i < j) × (j < suc n) × (p ≡ 2 ^ i + 2 ^ j)
+    go : Dec (p < 2 ^ n) → (p < 2 ^ n → (i : ℕ) × (j : ℕ) × (i < j) × (j < n) × (p ≡ 2 ^ i + 2 ^ j))
+        → (i : ℕ) × (j : ℕ) × (i < j) × (j < suc n) × (p ≡ 2 ^ i + 2 ^ j)
     go (yes g) r = let t = r g in (t .0, t .1, t .2, omega (arith, t .3), t .4)
     go (no g) r =
         let t = upper n p h g in
@@ -88,11 +90,13 @@ next-two k i j g h = ap (λ (x : ℕ). trailingZeros k x) (omega arith) ∙ low-
 
 pub two-is-xor : (i j : ℕ) → i < j → bitXor (2 ^ i) (2 ^ j) ≡ 2 ^ i + 2 ^ j
 two-is-xor i j h =
-    xor-comm (2 ^ i) (2 ^ j) ∙ ap (λ (x : ℕ). bitXor x (2 ^ i)) (sym (one-mul (2 ^ j))) ∙ xor-shifted 1 j (2 ^ i) (one-lt j i h) ∙ omega arith
+    xor-comm (2 ^ i) (2 ^ j) ∙ ap (λ (x : ℕ). bitXor x (2 ^ i)) (sym (one-mul (2 ^ j))) ∙ xor-shifted 1 j (2 ^ i) (one-lt j i h)
+    ∙ omega arith
 
 pub three-is-xor : (i j k : ℕ) → i < j → j < k → bitXor (bitXor (2 ^ i) (2 ^ j)) (2 ^ k) ≡ 2 ^ i + 2 ^ j + 2 ^ k
 three-is-xor i j k h g =
-    ap (λ (x : ℕ). bitXor x (2 ^ k)) (two-is-xor i j h) ∙ xor-comm (2 ^ i + 2 ^ j) (2 ^ k) ∙ ap (λ (x : ℕ). bitXor x (2 ^ i + 2 ^ j)) (sym (one-mul (2 ^ k)))
+    ap (λ (x : ℕ). bitXor x (2 ^ k)) (two-is-xor i j h) ∙ xor-comm (2 ^ i + 2 ^ j) (2 ^ k)
+    ∙ ap (λ (x : ℕ). bitXor x (2 ^ i + 2 ^ j)) (sym (one-mul (2 ^ k)))
     ∙ xor-shifted 1 k (2 ^ i + 2 ^ j) (two-lt k i j h g) ∙ omega arith
 
 bit-two : (i j a : ℕ) → i < j → bit (2 ^ i + 2 ^ j) a ≡ (bit (2 ^ i) a + bit (2 ^ j) a) % 2

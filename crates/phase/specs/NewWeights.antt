@@ -51,7 +51,8 @@ newWeight n w u p = (weight u p + rest n w u p) % 8
 unfoldable pub newWeights : ℕ → ℕ → List ℕ → List ℕ → List ℕ
 newWeights size n w u = pad size n (newWeight n w u)
 
--- document 01's shape: each member of the marks has 1, and an even rest is added: 0 or 6 on a parity of two wires, 0, 2, 4 or 6 on one wire, 0 on others, modulo 8
+-- document 01's shape: each member of the marks has 1, and an even rest is added:
+-- 0 or 6 on a parity of two wires, 0, 2, 4 or 6 on one wire, 0 on others, modulo 8
 pub record MarksAndRest (n : ℕ) (marks v : List ℕ) : Type 0 where
   pub added : ℕ → ℕ
   pub is : (p : ℕ) → p < 2 ^ n → weight v p ≡ (weight marks p + added p) % 8

@@ -13,7 +13,8 @@ use Rattle.circuit.specs.Limits.{maxGates}
 use Rattle.circuit.specs.declared.Reply.{Reply}
 use Rattle.circuit.specs.declared.Reply.the-variants.{Done, Refused}
 use Rattle.text.proofs.LineForms.{first-formed, starts}
-use Rattle.text.proofs.TextFaults.{by-count, done-few, done-next, faultFrom, gate-right, gate-wrong, gates-done, one-too-many, one-wrong, read-faulty}
+use Rattle.text.proofs.TextFaults.{by-count, done-few, done-next, faultFrom, gate-right, gate-wrong, gates-done, one-too-many}
+use Rattle.text.proofs.TextFaults.{one-wrong, read-faulty}
 use Rattle.text.specs.Limits.{gateDigits, gateLineBytes, longestText, textBytes, wiresDigits, wiresLineBytes}
 use Rattle.text.specs.Lines.{byteAt, firstFormed, linesOf, pair}
 use Rattle.text.specs.Text.{linesFault, readText}
@@ -49,7 +50,9 @@ none-decided r i = ap (λ (l : List ℕ). faultFrom l 0 i) (take-all (enough r) 
 gates-decided : (r i : ℕ) (t : List ℕ) → i + r ≡ maxGates → faultFrom (take (enough r) t) 0 i ≡ faultFrom t 0 i
 gates-decided zero i [] e = none-decided 0 i
 gates-decided (suc r) i [] e = none-decided (suc r) i
-gates-decided zero i (b ∷ t) e = one-too-many (take (enough 0) (b ∷ t)) 0 i (omega arith) (omega arith) ∙ sym (one-too-many (b ∷ t) 0 i (omega arith) (omega arith))
+gates-decided zero i (b ∷ t) e =
+    one-too-many (take (enough 0) (b ∷ t)) 0 i (omega arith) (omega arith)
+    ∙ sym (one-too-many (b ∷ t) 0 i (omega arith) (omega arith))
 gates-decided (suc r) i (b ∷ t) e =
     go (firstFormed gateDigits (linesOf (b ∷ t))) refl (formed-take gateDigits (enough (suc r)) (b ∷ t) (omega arith))
     (λ (u : List ℕ). gates-decided r (i + 1) u (omega arith))
@@ -80,13 +83,15 @@ byte-take m t h = ap₂ pair (getD-take m t 0 0 (omega arith)) (getD-take m t 1 
 pub fault-decided : (t : List ℕ) → linesFault (linesOf (take textBytes t)) ≡ linesFault (linesOf t)
 fault-decided t = go (firstFormed wiresDigits (linesOf t)) refl (formed-take wiresDigits textBytes t (omega arith))
   where
-    go : (f : Bool) → firstFormed wiresDigits (linesOf t) ≡ f → firstFormed wiresDigits (linesOf (take textBytes t)) ≡ firstFormed wiresDigits (linesOf t)
+    go : (f : Bool) → firstFormed wiresDigits (linesOf t) ≡ f
+        → firstFormed wiresDigits (linesOf (take textBytes t)) ≡ firstFormed wiresDigits (linesOf t)
         → linesFault (linesOf (take textBytes t)) ≡ linesFault (linesOf t)
     go false f h = one-wrong (take textBytes t) (h ∙ f) ∙ sym (one-wrong t f)
     go true f h =
         by-count (take textBytes t) (h ∙ f)
         ∙ ap₂ (λ (v : ℕ) (r : Reply). refuse (wiresFault v) 0 r) (byte-take textBytes t (omega arith))
-        (ap (λ (l : List ℕ). faultFrom l 0 0) (drop-take wiresLineBytes (enough maxGates) t) ∙ gates-decided maxGates 0 (drop wiresLineBytes t) refl)
+        (ap (λ (l : List ℕ). faultFrom l 0 0) (drop-take wiresLineBytes (enough maxGates) t)
+        ∙ gates-decided maxGates 0 (drop wiresLineBytes t) refl)
         ∙ sym (by-count t f)
 
 -- a text without a fault has at most so many bytes
@@ -97,7 +102,8 @@ done-short zero i at t e d = go (decLt at (length t))
     go (yes h) = absurd (omega (arith, done-few t at i h d))
     go (no h) = omega arith
 done-short (suc r) i at t e d =
-    go (decLt at (length t)) (λ (f : faultFrom t (at + gateLineBytes) (i + 1) ≡ Done). done-short r (i + 1) (at + gateLineBytes) t (omega arith) f)
+    go (decLt at (length t))
+    (λ (f : faultFrom t (at + gateLineBytes) (i + 1) ≡ Done). done-short r (i + 1) (at + gateLineBytes) t (omega arith) f)
   where
     go : Dec (at < length t) → (faultFrom t (at + gateLineBytes) (i + 1) ≡ Done → length t ≤ at + gateLineBytes + gateLineBytes * r)
         → length t ≤ at + gateLineBytes * suc r

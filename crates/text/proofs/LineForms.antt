@@ -1,5 +1,5 @@
--- The first line of a text by its bytes: it has the form exactly if the text starts with the digits and a newline, and the other lines are then those
--- of the rest.
+-- The first line of a text by its bytes: it has the form exactly if the text starts with the digits and a newline, and the other lines are
+-- then those of the rest.
 use mathlib.Core.Bool.{Bool, _&&_, and-false, cond, false, false≢true, true}
 use mathlib.Core.List.{List, [], _∷_}
 use mathlib.Core.Path.{_∙_, _≡_, ap, refl, sym}
@@ -86,10 +86,12 @@ module _ (t : List ℕ) (at : ℕ) where
   pub formed-long : (k : ℕ) → firstFormed k (linesOf (drop at t)) ≡ true → at + k < length t
   formed-long k e = omega (arith, length-drop at t, starts-long k (drop at t) (first-formed k (drop at t) ∙ e))
 
-  pub formed-lines : (k : ℕ) → firstFormed k (linesOf (drop at t)) ≡ true → linesOf (drop at t) ≡ ended (take k (drop at t)) ∷ linesOf (drop (at + (k + 1)) t)
+  pub formed-lines : (k : ℕ) → firstFormed k (linesOf (drop at t)) ≡ true
+      → linesOf (drop at t) ≡ ended (take k (drop at t)) ∷ linesOf (drop (at + (k + 1)) t)
   formed-lines k e =
       first-line k (drop at t) (first-formed k (drop at t) ∙ e)
-      ∙ ap (λ (l : List ℕ). ended (take k (drop at t)) ∷ linesOf l) (drop-drop (suc k) at t ∙ ap (λ (m : ℕ). drop (at + m) t) (sym (add-one k)))
+      ∙ ap (λ (l : List ℕ). ended (take k (drop at t)) ∷ linesOf l)
+      (drop-drop (suc k) at t ∙ ap (λ (m : ℕ). drop (at + m) t) (sym (add-one k)))
 
   pub some-line : at < length t → (l : Line) × (ls : List Line) × (linesOf (drop at t) ≡ l ∷ ls)
   some-line h = rw (drop-cons t at 0 h) (some (getD t at 0) (drop (suc at) t))
@@ -114,20 +116,30 @@ module _ (t : List ℕ) (at j : ℕ) (inside : at + j < length t) where
   unfolding starts
   starts-end = rw (drop-cons t (at + j) 0 inside)
 
-  module _ (k : ℕ) (left : j < k) where
-    one-more : starts (k - j) (drop (at + j) t) ≡ isDigit (getD t (at + j) 0) && starts (k - (j + 1)) (drop (at + (j + 1)) t)
+-- digits stand at the first j of the places: the line has the form exactly if the rest of it has
+pub record DigitsTo (t : List ℕ) (at k j : ℕ) : Type 0 where
+  pub within : j ≤ k
+  pub inside : at + k < length t
+  pub rest : starts (k - j) (drop (at + j) t) ≡ firstFormed k (linesOf (drop at t))
+
+pub digits-none : (t : List ℕ) (at k : ℕ) → at + k < length t → DigitsTo t at k 0
+digits-none t at k h =
+    record { within = omega arith; inside = h; rest = rw (sub-zero k, add-zero at) (first-formed k (drop at t)) }
+
+module _ {t : List ℕ} {at k j : ℕ} (d : DigitsTo t at k j) where
+  module _ (left : j < k) where
+    one-more : isDigit (getD t (at + j) 0) && starts (k - (j + 1)) (drop (at + (j + 1)) t) ≡ firstFormed k (linesOf (drop at t))
     one-more =
         let e : k - j ≡ suc (k - (j + 1)) = omega arith in
-        ap (λ (r : ℕ). starts r (drop (at + j) t)) e ∙ starts-step (k - (j + 1))
+        sym (starts-step t at j (omega (arith, d .inside)) (k - (j + 1))) ∙ ap (λ (r : ℕ). starts r (drop (at + j) t)) (sym e) ∙ d .rest
 
-    pub digit-wrong : isDigit (getD t (at + j) 0) ≡ false → false ≡ starts (k - j) (drop (at + j) t)
-    digit-wrong e = sym (one-more ∙ rw e)
+    pub digit-wrong : isDigit (getD t (at + j) 0) ≡ false → false ≡ firstFormed k (linesOf (drop at t))
+    digit-wrong e = rw e at one-more
 
-    pub digit-right : isDigit (getD t (at + j) 0) ≡ true → starts (k - (j + 1)) (drop (at + (j + 1)) t) ≡ starts (k - j) (drop (at + j) t)
-    digit-right e = sym (one-more ∙ rw e)
+    pub digit-right : isDigit (getD t (at + j) 0) ≡ true → DigitsTo t at k (j + 1)
+    digit-right e = record { within = omega arith; inside = d .inside; rest = rw e at one-more }
 
-pub digits-begin : (t : List ℕ) (at k : ℕ) → starts (k - 0) (drop (at + 0) t) ≡ firstFormed k (linesOf (drop at t))
-digits-begin t at k = rw (sub-zero k, add-zero at) (first-formed k (drop at t))
-
-pub digits-end : (t : List ℕ) (at k j : ℕ) → at + k < length t → j ≡ k → eqb (getD t (at + k) 0) newline ≡ starts (k - j) (drop (at + j) t)
-digits-end t at k j h e = rw e (sym (rw (sub-self k) (starts-end t at k h)))
+  pub digits-end : k ≤ j → eqb (getD t (at + k) 0) newline ≡ firstFormed k (linesOf (drop at t))
+  digits-end h =
+      let e : j ≡ k = omega (arith, d .within) in
+      sym (starts-end t at k (d .inside)) ∙ (rw (e, sub-self k) at (d .rest))

@@ -13,13 +13,14 @@ use Rattle.circuit.specs.declared.Reply.{Reply}
 use Rattle.circuit.specs.declared.Reply.the-variants.{Done, Refused}
 use Rattle.text.proofs.HexDigits.{value-lt}
 use Rattle.text.proofs.LineForms.{and-both, first-formed, starts}
-use Rattle.text.proofs.TextFaults.{count-done, done-few, done-formed, done-next, faultFrom, gates-done, one-formed-done, read-circuit, read-faulty}
+use Rattle.text.proofs.TextFaults.{count-done, done-few, done-formed, done-next, faultFrom, gates-done, one-formed-done}
+use Rattle.text.proofs.TextFaults.{read-circuit, read-faulty}
 use Rattle.text.specs.Hex.{hex2, isDigit, newline}
 use Rattle.text.specs.Limits.{gateDigits, gateLineBytes, wiresDigits, wiresLineBytes}
-use Rattle.text.specs.Lines.{byteAt, linesOf, linesSpell, pair}
+use Rattle.text.specs.Lines.{byteAt, linesDecoded, linesOf, pair}
 use Rattle.text.specs.Text.{Sayable, circuit, faulty, linesFault, readText}
 use Rattle.text.specs.Written.{gateLine, gateLines, textOf, wiresLine}
-use Rattle.text.proofs.WrittenReads.{AllBytes, hex-pair, line-spells, pair-hex}
+use Rattle.text.proofs.WrittenReads.{AllBytes, hex-pair, line-decoded, pair-hex}
 
 -- the digits of a byte taken off the front
 record Peeled (k : ℕ) (t : List ℕ) : Type 0 where
@@ -77,19 +78,19 @@ gate-first t e =
     let y = peel 2 (x .rest) (x .more) in
     let w = peel 0 (y .rest) (y .more) in
     let z = end (w .rest) (w .more) in
+    let last = w .is ∙ ap (λ (l : List ℕ). hex2 (w .value) ++ l) (z .1) in
+    let two = y .is ∙ ap (λ (l : List ℕ). hex2 (y .value) ++ l) last in
     record {
       kind = x .value;
       a = y .value;
       b = w .value;
       rest = z .0;
       small = (x .small, y .small, w .small);
-      is =
-          x .is
-          ∙ ap (λ (l : List ℕ). hex2 (x .value) ++ l) (y .is ∙ ap (λ (l : List ℕ). hex2 (y .value) ++ l) (w .is ∙ ap (λ (l : List ℕ). hex2 (w .value) ++ l) (z .1)));
+      is = x .is ∙ ap (λ (l : List ℕ). hex2 (x .value) ++ l) two;
     }
 
--- gate lines of which r may come yet, and what they spell
-record Spells (r : ℕ) (t bytes : List ℕ) : Type 0 where
+-- gate lines of which r may come yet, and the bytes that they stand for
+record Decodes (r : ℕ) (t bytes : List ℕ) : Type 0 where
   written : t ≡ gateLines (gatesOf bytes)
   whole : length bytes % gateBytes ≡ 0
   short : length bytes ≤ gateBytes * r
@@ -101,19 +102,20 @@ bytes-more kind a b bytes h f (suc zero) = h .1
 bytes-more kind a b bytes h f (suc (suc zero)) = h .2
 bytes-more kind a b bytes h f (suc (suc (suc i))) = f i
 
-no-gates : (r : ℕ) → Spells r [] (linesSpell (linesOf []))
-unfolding gatesOf gateLines linesSpell linesOf
+no-gates : (r : ℕ) → Decodes r [] (linesDecoded (linesOf []))
+unfolding gatesOf gateLines linesDecoded linesOf
 no-gates r = record { written = refl; whole = refl; short = omega arith; byte = λ i. omega arith }
 
-one-gate : (r : ℕ) (t : List ℕ) (g : GateFirst t) → Spells r (g .rest) (linesSpell (linesOf (g .rest))) → Spells (suc r) t (linesSpell (linesOf t))
+one-gate : (r : ℕ) (t : List ℕ) (g : GateFirst t) → Decodes r (g .rest) (linesDecoded (linesOf (g .rest)))
+    → Decodes (suc r) t (linesDecoded (linesOf t))
 unfolding gatesOf gateLines
 one-gate r t g s =
     let kind = g .kind in
     let a = g .a in
     let b = g .b in
-    let more = linesSpell (linesOf (g .rest)) in
-    let e : linesSpell (linesOf t) ≡ kind ∷ a ∷ b ∷ more =
-    ap (λ (l : List ℕ). linesSpell (linesOf l)) (g .is) ∙ line-spells kind a b (g .rest) (g .small .0) (g .small .1) (g .small .2) in
+    let more = linesDecoded (linesOf (g .rest)) in
+    let e : linesDecoded (linesOf t) ≡ kind ∷ a ∷ b ∷ more =
+    ap (λ (l : List ℕ). linesDecoded (linesOf l)) (g .is) ∙ line-decoded kind a b (g .rest) (g .small .0) (g .small .1) (g .small .2) in
     rw e
     (record {
       written = g .is ∙ ap (λ (l : List ℕ). gateLine (gate kind a b) ++ l) (s .written);
@@ -127,9 +129,11 @@ module _ (i b : ℕ) (t : List ℕ) (d : faultFrom (b ∷ t) 0 i ≡ Done) where
   gate-there = gate-first (b ∷ t) (first-formed gateDigits (b ∷ t) ∙ done-formed (b ∷ t) 0 i (omega arith) d)
 
   gates-after : faultFrom (gate-there .rest) 0 (i + 1) ≡ Done
-  gates-after = ap (λ (l : List ℕ). faultFrom l 0 (i + 1)) (sym (ap (drop gateLineBytes) (gate-there .is))) ∙ done-next (b ∷ t) 0 i (omega arith) d
+  gates-after =
+      ap (λ (l : List ℕ). faultFrom l 0 (i + 1)) (sym (ap (drop gateLineBytes) (gate-there .is)))
+      ∙ done-next (b ∷ t) 0 i (omega arith) d
 
-gates-written : (r i : ℕ) (t : List ℕ) → i + r ≡ maxGates → faultFrom t 0 i ≡ Done → Spells r t (linesSpell (linesOf t))
+gates-written : (r i : ℕ) (t : List ℕ) → i + r ≡ maxGates → faultFrom t 0 i ≡ Done → Decodes r t (linesDecoded (linesOf t))
 gates-written zero i [] e d = no-gates 0
 gates-written (suc r) i [] e d = no-gates (suc r)
 gates-written zero i (b ∷ t) e d = absurd (omega (arith, done-few (b ∷ t) 0 i (omega arith) d))
@@ -145,22 +149,22 @@ module _ (t : List ℕ) (done : linesFault (linesOf t) ≡ Done) where
   after-one : drop wiresLineBytes t ≡ line-one .rest
   after-one = ap (drop wiresLineBytes) (line-one .is)
 
-  said-gates : Spells maxGates (drop wiresLineBytes t) (linesSpell (linesOf (drop wiresLineBytes t)))
+  said-gates : Decodes maxGates (drop wiresLineBytes t) (linesDecoded (linesOf (drop wiresLineBytes t)))
   said-gates = gates-written maxGates 0 (drop wiresLineBytes t) refl (gates-done t done)
 
   said-count : byteAt t 0 ≡ line-one .n
   said-count = ap (λ (l : List ℕ). byteAt l 0) (line-one .is) ∙ pair-hex (line-one .n) (line-one .small)
 
-  pub sound-sayable : Sayable (byteAt t 0) (linesSpell (linesOf (drop wiresLineBytes t)))
+  pub sound-sayable : Sayable (byteAt t 0) (linesDecoded (linesOf (drop wiresLineBytes t)))
   sound-sayable =
       let w = wires-pass (byteAt t 0) (count-done t done) in
       record { some = w .0; few = w .1; whole = said-gates .whole; short = said-gates .short; byte = said-gates .byte }
 
-  pub sound-written : t ≡ textOf (byteAt t 0) (linesSpell (linesOf (drop wiresLineBytes t)))
+  pub sound-written : t ≡ textOf (byteAt t 0) (linesDecoded (linesOf (drop wiresLineBytes t)))
   sound-written =
       line-one .is
       ∙ ap (λ (l : List ℕ). wiresLine (line-one .n) ++ l) (sym after-one ∙ said-gates .written)
-      ∙ ap (λ (n : ℕ). textOf n (linesSpell (linesOf (drop wiresLineBytes t)))) (sym said-count)
+      ∙ ap (λ (n : ℕ). textOf n (linesDecoded (linesOf (drop wiresLineBytes t)))) (sym said-count)
 
 pub never : (number place n : ℕ) (bytes : List ℕ) → faulty number place ≡ circuit n bytes → ⊥
 never number place n bytes e = let z : _≡_ {A = ℕ} 0 1 = cc in omega arith
@@ -173,5 +177,5 @@ reads-written t n bytes e = go (linesFault (linesOf t)) refl
     go Done f =
         let same = sym (read-circuit t f) ∙ e in
         let m : byteAt t 0 ≡ n = cc in
-        let l : linesSpell (linesOf (drop wiresLineBytes t)) ≡ bytes = cc in
+        let l : linesDecoded (linesOf (drop wiresLineBytes t)) ≡ bytes = cc in
         (rw (← m, ← l) (sound-sayable t f), sound-written t f ∙ ap₂ textOf m l)

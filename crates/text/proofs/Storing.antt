@@ -1,80 +1,100 @@
--- Bytes stored in a row, and the loop that stores the gates of a text without a fault.
-use mathlib.Core.List.{List, [], _∷_, _++_}
+-- The loop that stores the gates of a text without a fault.
 use mathlib.Core.Bool.{true}
-use mathlib.Core.Path.{_∙_, _≡_, ap, sym}
+use mathlib.Core.List.{List, [], _∷_, _++_}
+use mathlib.Core.Path.{_∙_, _≡_, ap, refl, sym}
 use Prim.Native.Nat.{_*_, _+_, _<_, _≤_, suc, ℕ}
-use native.Mathlib.Nat.{add-zero}
-use native.Mathlib.Numerals.{add-one, add-two}
+use native.Mathlib.Numerals.{add-one}
 use native.Mathlib.Omega.{arith}
-use lib.ListN.{drop, drop-of-length-le, getD, length, set, take}
-use lib.Seq.{drop-cons, sets, sets-eq}
+use lib.ListN.{drop, drop-of-length-le, getD, length, take}
+use lib.Seq.{drop-cons, length-sets, sets}
+use Rattle.circuit.proofs.Placing.{sets-append, sets-placed}
 use Rattle.circuit.specs.Limits.{gateBytes, maxGates, maxListBytes}
-use Rattle.circuit.specs.Lent.{placed}
+use Rattle.circuit.specs.declared.Reply.the-variants.{Done}
 use Rattle.text.proofs.LineForms.{formed-lines, formed-long}
-use Rattle.text.specs.Limits.{gateDigits, gateLineBytes}
-use Rattle.text.specs.Lines.{byteAt, firstFormed, gateSpelledAt, linesOf, linesSpell, spelled}
+use Rattle.text.proofs.TextFaults.{done-few, done-formed, done-next, faultFrom}
+use Rattle.text.specs.Limits.{gateDigits, gateLineBytes, wiresLineBytes}
+use Rattle.text.specs.Lines.{byteAt, decoded, firstFormed, gateDecodedAt, linesDecoded, linesOf}
 use Rattle.text.specs.Placed.{Stores}
 
--- ---- stores in a row
-
-pub sets-append : (l : List ℕ) (i : ℕ) (u v : List ℕ) → sets (sets l i u) (i + length u) v ≡ sets l i (u ++ v)
-sets-append l i [] v = rw (add-zero i)
-sets-append l i (a ∷ u) v =
-    let e : i + suc (length u) ≡ suc i + length u = omega arith in
-    rw e (sets-append (set l i a) (suc i) u v)
-
-pub sets-placed : (l : List ℕ) (i : ℕ) (vs : List ℕ) → i + length vs ≤ length l → sets l i vs ≡ placed l i vs
-sets-placed l i vs h = sets-eq vs l i h
-
-pub three-stored : (l : List ℕ) (j a b c a′ b′ c′ : ℕ) → a ≡ a′ → b ≡ b′ → c ≡ c′ → set (set (set l j a) (j + 1) b) (j + 2) c ≡ sets l j (a′ ∷ b′ ∷ c′ ∷ [])
-three-stored l j a b c a′ b′ c′ e f g = rw (e, f, g, add-one j, add-two j)
-
--- ---- the bytes that the gate lines from place `at` on spell
+-- ---- the bytes that the gate lines from place `at` on stand for
 
 abbrev pub bytesFrom : List ℕ → ℕ → List ℕ
-bytesFrom t at = linesSpell (linesOf (drop at t))
+bytesFrom t at = linesDecoded (linesOf (drop at t))
 
-spelled-two : (t : List ℕ) (p k : ℕ) → p + 1 < length t → spelled (take (suc (suc k)) (drop p t)) ≡ byteAt t p ∷ spelled (take k (drop (p + 2) t))
-unfolding spelled
-spelled-two t p k h =
+decoded-two : (t : List ℕ) (p k : ℕ) → p + 1 < length t
+    → decoded (take (suc (suc k)) (drop p t)) ≡ byteAt t p ∷ decoded (take k (drop (p + 2) t))
+unfolding decoded
+decoded-two t p k h =
     let e : suc (suc p) ≡ p + 2 = omega arith in
     let d = drop-cons t p 0 (omega arith) ∙ ap (λ (l : List ℕ). getD t p 0 ∷ l) (drop-cons t (suc p) 0 (omega arith)) in
-    ap (λ (l : List ℕ). spelled (take (suc (suc k)) l)) d ∙ rw (e, add-one p)
+    ap (λ (l : List ℕ). decoded (take (suc (suc k)) l)) d ∙ rw (e, add-one p)
 
-gate-spelled : (t : List ℕ) (p : ℕ) → p + gateDigits < length t → spelled (take gateDigits (drop p t)) ≡ gateSpelledAt t p
-unfolding spelled
-gate-spelled t p h =
+gate-decoded : (t : List ℕ) (p : ℕ) → p + gateDigits < length t → decoded (take gateDigits (drop p t)) ≡ gateDecodedAt t p
+unfolding decoded
+gate-decoded t p h =
     let e : p + 2 + 2 ≡ p + 4 = omega arith in
-    spelled-two t p 4 (omega arith)
-    ∙ ap (λ (l : List ℕ). byteAt t p ∷ l) (spelled-two t (p + 2) 2 (omega arith))
-    ∙ ap (λ (q : ℕ). byteAt t p ∷ byteAt t (p + 2) ∷ spelled (take 2 (drop q t))) e
-    ∙ ap (λ (l : List ℕ). byteAt t p ∷ byteAt t (p + 2) ∷ l) (spelled-two t (p + 4) 0 (omega arith))
+    decoded-two t p 4 (omega arith)
+    ∙ ap (λ (l : List ℕ). byteAt t p ∷ l) (decoded-two t (p + 2) 2 (omega arith))
+    ∙ ap (λ (q : ℕ). byteAt t p ∷ byteAt t (p + 2) ∷ decoded (take 2 (drop q t))) e
+    ∙ ap (λ (l : List ℕ). byteAt t p ∷ byteAt t (p + 2) ∷ l) (decoded-two t (p + 4) 0 (omega arith))
 
 module _ (t : List ℕ) (at : ℕ) where
-  pub no-bytes : length t ≤ at → bytesFrom t at ≡ []
-  unfolding linesSpell linesOf
+  no-bytes : length t ≤ at → bytesFrom t at ≡ []
+  unfolding linesDecoded linesOf
   no-bytes h = rw (drop-of-length-le t h)
 
-  module _ (e : firstFormed gateDigits (linesOf (drop at t)) ≡ true) where
-    pub bytes-step : bytesFrom t at ≡ gateSpelledAt t at ++ bytesFrom t (at + gateLineBytes)
-    unfolding linesSpell
-    bytes-step =
-        ap linesSpell (formed-lines t at gateDigits e)
-        ∙ ap (λ (l : List ℕ). l ++ bytesFrom t (at + gateLineBytes)) (gate-spelled t at (formed-long t at gateDigits e))
+  bytes-step : firstFormed gateDigits (linesOf (drop at t)) ≡ true → bytesFrom t at ≡ gateDecodedAt t at ++ bytesFrom t (at + gateLineBytes)
+  unfolding linesDecoded
+  bytes-step e =
+      ap linesDecoded (formed-lines t at gateDigits e)
+      ∙ ap (λ (l : List ℕ). l ++ bytesFrom t (at + gateLineBytes)) (gate-decoded t at (formed-long t at gateDigits e))
 
-    pub bytes-counted : (i m : ℕ) → gateBytes * i + length (bytesFrom t at) ≡ m → gateBytes * (i + 1) + length (bytesFrom t (at + gateLineBytes)) ≡ m
-    bytes-counted i m h = omega (arith, ap length bytes-step)
+-- ---- the loop over the gate lines
 
-    pub bytes-stored : (i : ℕ) (was left all : List ℕ) → left ≡ sets was (gateBytes * i) (gateSpelledAt t at) → sets was (gateBytes * i) (bytesFrom t at) ≡ all
-        → sets left (gateBytes * (i + 1)) (bytesFrom t (at + gateLineBytes)) ≡ all
-    bytes-stored i was left all s h =
-        let rest = bytesFrom t (at + gateLineBytes) in
-        let p : gateBytes * (i + 1) ≡ gateBytes * i + 3 = omega arith in
-        rw (s, p) (sets-append was (gateBytes * i) (gateSpelledAt t at) rest ∙ ap (λ (l : List ℕ). sets was (gateBytes * i) l) (sym bytes-step) ∙ h)
+-- i gates are stored, and the next line starts at `at`: what is left, stored behind them, gives all of it
+pub record StoredTo (t was left : List ℕ) (i at : ℕ) : Type 0 where
+  pub long : length left ≡ length was
+  pub few : i ≤ maxGates
+  pub done : faultFrom t at i ≡ Done
+  pub counted : gateBytes * i + length (bytesFrom t at) ≡ length (bytesFrom t wiresLineBytes)
+  pub stored : sets left (gateBytes * i) (bytesFrom t at) ≡ sets was 0 (bytesFrom t wiresLineBytes)
+
+pub none-stored : (t was : List ℕ) → faultFrom t wiresLineBytes 0 ≡ Done → StoredTo t was was 0 wiresLineBytes
+none-stored t was d = record { long = refl; few = omega arith; done = d; counted = omega arith; stored = refl }
+
+module _ {t was left : List ℕ} {i at : ℕ} (s : StoredTo t was left i at) where
+  module _ (more : at < length t) where
+    formed : firstFormed gateDigits (linesOf (drop at t)) ≡ true
+    formed = done-formed t at i more (s .done)
+
+    -- there is a gate line, and room for its gate
+    pub gate-there : at + gateDigits < length t
+    gate-there = formed-long t at gateDigits formed
+
+    pub gate-fits : maxListBytes ≤ length was → gateBytes * i + gateBytes ≤ length left
+    gate-fits lent = omega (arith, s .long, done-few t at i more (s .done))
+
+    pub gate-stored : {left′ : List ℕ} → left′ ≡ sets left (gateBytes * i) (gateDecodedAt t at)
+        → StoredTo t was left′ (i + 1) (at + gateLineBytes)
+    gate-stored {left′} e =
+        record {
+          long = ap length e ∙ length-sets left (gateBytes * i) (gateDecodedAt t at) ∙ s .long;
+          few = omega (arith, done-few t at i more (s .done));
+          done = done-next t at i more (s .done);
+          counted = omega (arith, s .counted, ap length (bytes-step t at formed));
+          stored =
+              ap (λ (l : List ℕ). sets l (gateBytes * (i + 1)) (bytesFrom t (at + gateLineBytes))) e
+              ∙ sets-append left (gateDecodedAt t at) (bytesFrom t (at + gateLineBytes)) (gateBytes * i) (gateBytes * (i + 1)) (omega arith)
+              ∙ ap (sets left (gateBytes * i)) (sym (bytes-step t at formed))
+              ∙ s .stored;
+        }
 
   -- no line is left
-  pub all-stored : length t ≤ at → (i : ℕ) (was left all : List ℕ) → i ≤ maxGates → maxListBytes ≤ length was
-      → gateBytes * i + length (bytesFrom t at) ≡ length all → sets left (gateBytes * i) (bytesFrom t at) ≡ sets was 0 all → Stores was all left i
-  all-stored h i was left all few lent e s =
-      let counted : gateBytes * i ≡ length all = omega (arith, ap length (no-bytes h)) in
-      record { counted = counted; stored = (rw (no-bytes h) at s) ∙ sets-placed was 0 all (omega arith) }
+  pub all-stored : length t ≤ at → maxListBytes ≤ length was → Stores was (bytesFrom t wiresLineBytes) left i
+  all-stored h lent =
+      let none = no-bytes t at h in
+      let all : gateBytes * i ≡ length (bytesFrom t wiresLineBytes) = omega (arith, s .counted, ap length none) in
+      record {
+        counted = all;
+        stored = (rw none at (s .stored)) ∙ sets-placed was 0 (bytesFrom t wiresLineBytes) (omega (arith, s .few));
+      }

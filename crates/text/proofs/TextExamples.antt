@@ -2,78 +2,79 @@
 use mathlib.Core.List.{[], _∷_, _++_}
 use mathlib.Core.Path.{_≡_, refl}
 use Rattle.circuit.specs.Gate.{gate}
-use Rattle.text.specs.Hex.{digit, isDigit, valueOf}
 use Rattle.circuit.specs.Limits.{maxWrittenGates}
+use Rattle.text.specs.Hex.{digit, isDigit, valueOf}
 use Rattle.text.specs.Limits.{replyBytes, textBytes}
-use Rattle.text.specs.Lines.{areDigits, linesOf, linesSpell, spelled}
+use Rattle.text.specs.Lines.{areDigits, decoded, linesDecoded, linesOf}
 use Rattle.text.specs.Text.{circuit, faulty, gatesFault, readText}
 use Rattle.text.specs.Written.{countsLine, gateLines, refusedLine, wiresLine}
 
 -- ---- read
 
 -- document 01's example: `01`, `020000`, `020000`
-example : readText (48 ∷ 49 ∷ 10 ∷ 48 ∷ 50 ∷ 48 ∷ 48 ∷ 48 ∷ 48 ∷ 10 ∷ 48 ∷ 50 ∷ 48 ∷ 48 ∷ 48 ∷ 48 ∷ 10 ∷ []) ≡ circuit 1 (2 ∷ 0 ∷ 0 ∷ 2 ∷ 0 ∷ 0 ∷ [])
-unfolding readText linesOf areDigits gatesFault spelled linesSpell isDigit valueOf
+example : readText (48 ∷ 49 ∷ 10 ∷ 48 ∷ 50 ∷ 48 ∷ 48 ∷ 48 ∷ 48 ∷ 10 ∷ 48 ∷ 50 ∷ 48 ∷ 48 ∷ 48 ∷ 48 ∷ 10 ∷ [])
+    ≡ circuit 1 (2 ∷ 0 ∷ 0 ∷ 2 ∷ 0 ∷ 0 ∷ [])
+unfolding readText linesOf areDigits gatesFault decoded linesDecoded isDigit valueOf
 example = refl
 
 -- `01` alone is a circuit without gates
 no-gate : readText (48 ∷ 49 ∷ 10 ∷ []) ≡ circuit 1 []
-unfolding readText linesOf areDigits gatesFault spelled linesSpell isDigit valueOf
+unfolding readText linesOf areDigits gatesFault decoded linesDecoded isDigit valueOf
 no-gate = refl
 
 -- gates are not judged: `ffffff` is read
 gates-unjudged : readText (48 ∷ 49 ∷ 10 ∷ 102 ∷ 102 ∷ 102 ∷ 102 ∷ 102 ∷ 102 ∷ 10 ∷ []) ≡ circuit 1 (255 ∷ 255 ∷ 255 ∷ [])
-unfolding readText linesOf areDigits gatesFault spelled linesSpell isDigit valueOf
+unfolding readText linesOf areDigits gatesFault decoded linesDecoded isDigit valueOf
 gates-unjudged = refl
 
 -- an empty text
 empty : readText ([]) ≡ faulty 9 1
-unfolding readText linesOf areDigits gatesFault spelled linesSpell isDigit valueOf
+unfolding readText linesOf areDigits gatesFault decoded linesDecoded isDigit valueOf
 empty = refl
 
 -- line one without its newline
 no-newline : readText (48 ∷ 49 ∷ []) ≡ faulty 9 1
-unfolding readText linesOf areDigits gatesFault spelled linesSpell isDigit valueOf
+unfolding readText linesOf areDigits gatesFault decoded linesDecoded isDigit valueOf
 no-newline = refl
 
 -- the last line without its newline
 no-newline-last : readText (48 ∷ 49 ∷ 10 ∷ 48 ∷ 50 ∷ 48 ∷ 48 ∷ 48 ∷ 48 ∷ []) ≡ faulty 9 2
-unfolding readText linesOf areDigits gatesFault spelled linesSpell isDigit valueOf
+unfolding readText linesOf areDigits gatesFault decoded linesDecoded isDigit valueOf
 no-newline-last = refl
 
 -- an upper-case digit
 upper-case : readText (48 ∷ 49 ∷ 10 ∷ 48 ∷ 50 ∷ 48 ∷ 48 ∷ 48 ∷ 65 ∷ 10 ∷ []) ≡ faulty 9 2
-unfolding readText linesOf areDigits gatesFault spelled linesSpell isDigit valueOf
+unfolding readText linesOf areDigits gatesFault decoded linesDecoded isDigit valueOf
 upper-case = refl
 
 -- an empty line
 empty-line : readText (48 ∷ 49 ∷ 10 ∷ 10 ∷ []) ≡ faulty 9 2
-unfolding readText linesOf areDigits gatesFault spelled linesSpell isDigit valueOf
+unfolding readText linesOf areDigits gatesFault decoded linesDecoded isDigit valueOf
 empty-line = refl
 
 -- a byte before the newline
 carriage-return : readText (48 ∷ 49 ∷ 13 ∷ 10 ∷ []) ≡ faulty 9 1
-unfolding readText linesOf areDigits gatesFault spelled linesSpell isDigit valueOf
+unfolding readText linesOf areDigits gatesFault decoded linesDecoded isDigit valueOf
 carriage-return = refl
 
 -- no wire
 no-wires : readText (48 ∷ 48 ∷ 10 ∷ []) ≡ faulty 1 0
-unfolding readText linesOf areDigits gatesFault spelled linesSpell isDigit valueOf
+unfolding readText linesOf areDigits gatesFault decoded linesDecoded isDigit valueOf
 no-wires = refl
 
 -- nine wires
 nine-wires : readText (48 ∷ 57 ∷ 10 ∷ []) ≡ faulty 1 0
-unfolding readText linesOf areDigits gatesFault spelled linesSpell isDigit valueOf
+unfolding readText linesOf areDigits gatesFault decoded linesDecoded isDigit valueOf
 nine-wires = refl
 
 -- of line one the form is judged before the count
 form-then-count : readText (48 ∷ 48 ∷ []) ≡ faulty 9 1
-unfolding readText linesOf areDigits gatesFault spelled linesSpell isDigit valueOf
+unfolding readText linesOf areDigits gatesFault decoded linesDecoded isDigit valueOf
 form-then-count = refl
 
 -- and the count before the next line
 count-then-gates : readText (48 ∷ 57 ∷ 10 ∷ 48 ∷ []) ≡ faulty 1 0
-unfolding readText linesOf areDigits gatesFault spelled linesSpell isDigit valueOf
+unfolding readText linesOf areDigits gatesFault decoded linesDecoded isDigit valueOf
 count-then-gates = refl
 
 -- ---- written

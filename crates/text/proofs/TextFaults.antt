@@ -10,13 +10,13 @@ use native.Mathlib.Omega.{arith}
 use lib.ListN.{drop, drop-of-length-le, length, take}
 use borrow.Author.Tests.{eq-eqb, le-ltb, lt-leb, lt-ltb, ne-eqb}
 use Rattle.circuit.proofs.Judging.{refuse-done, refused, wires-well}
-use Rattle.circuit.specs.Faults.{listLength, malformed, refuse, wiresFault}
+use Rattle.circuit.specs.Faults.{listLength, malformed, refuse, wireCount, wiresFault}
 use Rattle.circuit.specs.Limits.{maxGates, maxWires}
 use Rattle.circuit.specs.declared.Reply.{Reply}
 use Rattle.circuit.specs.declared.Reply.the-variants.{Done, Refused}
 use Rattle.text.proofs.LineForms.{formed-lines, formed-long, some-line}
 use Rattle.text.specs.Limits.{gateDigits, gateLineBytes, wiresDigits, wiresLineBytes}
-use Rattle.text.specs.Lines.{Line, ended, firstFormed, formed, byteAt, linesOf, linesSpell, spelled}
+use Rattle.text.specs.Lines.{Line, byteAt, decoded, ended, firstFormed, formed, linesDecoded, linesOf}
 use Rattle.text.specs.Text.{circuit, faulty, gatesFault, linesFault, readText, wiresIn}
 
 -- ---- by lines
@@ -51,15 +51,41 @@ module _ (t : List ℕ) (at i : ℕ) where
       let s = some-line t at h in
       rw (s .2) (many i (s .0) (s .1) k)
 
-  pub gate-wrong : at < length t → i < maxGates → firstFormed gateDigits (linesOf (drop at t)) ≡ false → faultFrom t at i ≡ Refused malformed (i + 2)
+  pub gate-wrong : at < length t → i < maxGates → firstFormed gateDigits (linesOf (drop at t)) ≡ false
+      → faultFrom t at i ≡ Refused malformed (i + 2)
   gate-wrong h k e =
       let s = some-line t at h in
       rw (s .2) (wrong i (s .0) (s .1) k (rw (s .2) at e))
 
-  pub gate-right : i < maxGates → firstFormed gateDigits (linesOf (drop at t)) ≡ true → faultFrom t (at + gateLineBytes) (i + 1) ≡ faultFrom t at i
+  pub gate-right : i < maxGates → firstFormed gateDigits (linesOf (drop at t)) ≡ true
+      → faultFrom t (at + gateLineBytes) (i + 1) ≡ faultFrom t at i
   gate-right k e =
       let s = formed-lines t at gateDigits e in
       sym (rw (s, add-one i) (right i (ended (take gateDigits (drop at t))) (linesOf (drop (at + gateLineBytes) t)) k (rw s at e)))
+
+-- ---- the loop over the gate lines
+
+-- the gate lines before i, which starts at `at`, have the form: the first fault from there on is the first of all
+pub record PassedTo (t : List ℕ) (at i : ℕ) : Type 0 where
+  pub few : i ≤ maxGates
+  pub inside : at ≤ length t
+  pub same : faultFrom t at i ≡ faultFrom t wiresLineBytes 0
+
+module _ {t : List ℕ} {at i : ℕ} (p : PassedTo t at i) where
+  pub all-passed : length t ≤ at → Done ≡ faultFrom t wiresLineBytes 0
+  all-passed h = sym (no-more t at i h) ∙ p .same
+
+  module _ (more : at < length t) where
+    pub line-too-many : maxGates ≤ i → Refused listLength 0 ≡ faultFrom t wiresLineBytes 0
+    line-too-many h = sym (one-too-many t at i more h) ∙ p .same
+
+    pub line-wrong : i < maxGates → firstFormed gateDigits (linesOf (drop at t)) ≡ false
+        → Refused malformed (i + 2) ≡ faultFrom t wiresLineBytes 0
+    line-wrong h e = sym (gate-wrong t at i more h e) ∙ p .same
+
+  pub line-passed : i < maxGates → firstFormed gateDigits (linesOf (drop at t)) ≡ true → PassedTo t (at + gateLineBytes) (i + 1)
+  line-passed h e =
+      record { few = omega arith; inside = omega (arith, formed-long t at gateDigits e); same = gate-right t at i h e ∙ p .same }
 
 -- ---- line one
 
@@ -71,7 +97,7 @@ one-wrong t = go (linesOf t)
     go (l ∷ ls) e = rw e
 
 two : (t : List ℕ) → wiresDigits < length t → wiresIn (ended (take wiresDigits t)) ≡ byteAt t 0
-unfolding spelled
+unfolding decoded
 two [] h = absurd (omega arith)
 two (a ∷ []) h = absurd (omega arith)
 two (a ∷ b ∷ t) h = refl
@@ -80,7 +106,7 @@ module _ (t : List ℕ) (e : firstFormed wiresDigits (linesOf t) ≡ true) where
   pub one-long : wiresDigits < length t
   one-long = formed-long t 0 wiresDigits e
 
-  pub one-right : linesOf t ≡ ended (take wiresDigits t) ∷ linesOf (drop wiresLineBytes t)
+  one-right : linesOf t ≡ ended (take wiresDigits t) ∷ linesOf (drop wiresLineBytes t)
   one-right = formed-lines t 0 wiresDigits e
 
   one-formed : formed wiresDigits (ended (take wiresDigits t)) ≡ true
@@ -89,7 +115,7 @@ module _ (t : List ℕ) (e : firstFormed wiresDigits (linesOf t) ≡ true) where
   pub by-count : linesFault (linesOf t) ≡ refuse (wiresFault (byteAt t 0)) 0 (faultFrom t wiresLineBytes 0)
   by-count = rw (one-right, one-formed, two t one-long)
 
-  module _ (f v : ℕ) (judged : f ≡ wiresFault v) (is : v ≡ byteAt t 0) where
+  module _ {f v : ℕ} (judged : f ≡ wiresFault v) (is : v ≡ byteAt t 0) where
     by-fault : linesFault (linesOf t) ≡ refuse f 0 (faultFrom t wiresLineBytes 0)
     by-fault = by-count ∙ ap (λ (x : ℕ). refuse x 0 (faultFrom t wiresLineBytes 0)) (sym (judged ∙ ap wiresFault is))
 
@@ -141,7 +167,7 @@ module _ (t : List ℕ) (done : linesFault (linesOf t) ≡ Done) where
   pub gates-done : faultFrom t wiresLineBytes 0 ≡ Done
   gates-done = judged-done .1
 
-  pub read-circuit : readText t ≡ circuit (byteAt t 0) (linesSpell (linesOf (drop wiresLineBytes t)))
+  pub read-circuit : readText t ≡ circuit (byteAt t 0) (linesDecoded (linesOf (drop wiresLineBytes t)))
   unfolding readText
   read-circuit = rw (done, one-right t one-formed-done, two t (one-long t one-formed-done))
 
@@ -164,22 +190,24 @@ gates-small : (ls : List Line) (i number place : ℕ) → gatesFault i ls ≡ Re
 unfolding gatesFault
 gates-small [] i number place e = absurd (not-done number place (sym e))
 gates-small (l ∷ ls) i number place e =
-    go (decLt i maxGates) (formed gateDigits l) refl (λ (f : gatesFault (suc i) ls ≡ Refused number place). gates-small ls (suc i) number place f)
+    go (decLt i maxGates) (formed gateDigits l) refl
+    (λ (f : gatesFault (suc i) ls ≡ Refused number place). gates-small ls (suc i) number place f)
   where
-    go : Dec (i < maxGates) → (b : Bool) → formed gateDigits l ≡ b → (gatesFault (suc i) ls ≡ Refused number place → Small number place) → Small number place
+    go : Dec (i < maxGates) → (b : Bool) → formed gateDigits l ≡ b → (gatesFault (suc i) ls ≡ Refused number place → Small number place)
+        → Small number place
     go (no h) b f later = same-fault listLength 0 number place (sym (many i l ls (omega arith)) ∙ e) (omega arith)
     go (yes h) false f later = same-fault malformed (i + 2) number place (sym (wrong i l ls h f) ∙ e) (omega arith)
     go (yes h) true f later = later (sym (right i l ls h f) ∙ e)
 
-wires-small : (n : ℕ) → wiresFault n ≤ 1
+wires-small : (n : ℕ) → wiresFault n ≤ wireCount
 wires-small n = go (ℕ-discrete n 0) (decLe n maxWires)
   where
-    go : Dec (n ≡ 0) → Dec (n ≤ maxWires) → wiresFault n ≤ 1
+    go : Dec (n ≡ 0) → Dec (n ≤ maxWires) → wiresFault n ≤ wireCount
     go (yes e) b = simp (eq-eqb n 0 e) (omega arith)
     go (no e) (yes h) = omega (arith, wires-well n (omega arith) h)
     go (no e) (no h) = simp (ne-eqb n 0 e, lt-leb n maxWires (omega arith)) (omega arith)
 
-refuse-small : (f : ℕ) (rest : Reply) (number place : ℕ) → f ≤ 1 → refuse f 0 rest ≡ Refused number place
+refuse-small : (f : ℕ) (rest : Reply) (number place : ℕ) → f ≤ wireCount → refuse f 0 rest ≡ Refused number place
     → (rest ≡ Refused number place → Small number place) → Small number place
 refuse-small zero rest number place h e later = later e
 refuse-small (suc f) rest number place h e later = same-fault (suc f) 0 number place e (omega arith)
@@ -190,5 +218,6 @@ faults-small t number place e = go (firstFormed wiresDigits (linesOf t)) refl
     go : (b : Bool) → firstFormed wiresDigits (linesOf t) ≡ b → Small number place
     go false f = same-fault malformed 1 number place (sym (one-wrong t f) ∙ e) (omega arith)
     go true f =
-        refuse-small (wiresFault (byteAt t 0)) (faultFrom t wiresLineBytes 0) number place (wires-small (byteAt t 0)) (sym (by-count t f) ∙ e)
+        refuse-small (wiresFault (byteAt t 0)) (faultFrom t wiresLineBytes 0) number place (wires-small (byteAt t 0))
+        (sym (by-count t f) ∙ e)
         (gates-small (linesOf (drop wiresLineBytes t)) 0 number place)

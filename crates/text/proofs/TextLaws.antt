@@ -19,12 +19,14 @@ use Rattle.circuit.specs.declared.Reply.the-variants.{Done as Judged, Refused a
 use Rattle.text.proofs.Deciding.{text-decided}
 use Rattle.text.proofs.LineForms.{first-formed}
 use Rattle.text.proofs.ReadsWritten.{never, reads-written}
-use Rattle.text.proofs.TextFaults.{Small, count-refused, faults-small, gate-wrong, one-too-many, one-wrong, read-circuit, read-faulty}
+use Rattle.text.proofs.TextFaults.{Small, count-refused, faults-small, gate-wrong, one-too-many, one-wrong, read-circuit}
+use Rattle.text.proofs.TextFaults.{read-faulty}
 use Rattle.text.proofs.WrittenReads.{circuit-pass, length-gates, pair-hex, pair-low, wires-starts, written-reads}
 use Rattle.text.specs.Entry.{ReadText, gatesAfter, readInto, replyOf}
 use Rattle.text.specs.Hex.{hex2, hex4}
-use Rattle.text.specs.Limits.{countsLineBytes, gateDigits, gateLineBytes, refusedLineBytes, replyBytes, textBytes, wiresDigits, wiresLineBytes}
-use Rattle.text.specs.Lines.{firstFormed, linesOf, spelled}
+use Rattle.text.specs.Limits.{countsLineBytes, gateDigits, gateLineBytes, refusedLineBytes, replyBytes, textBytes}
+use Rattle.text.specs.Limits.{wiresDigits, wiresLineBytes}
+use Rattle.text.specs.Lines.{decoded, firstFormed, linesOf}
 use Rattle.text.specs.Text.{Sayable, Text, circuit, faulty, linesFault, readText}
 use Rattle.text.specs.Written.{countsLine, gateLine, gateLines, refusedLine, textOf, wiresLine}
 use Rattle.text.specs.declared.TextReply.{TextReply}
@@ -55,7 +57,7 @@ pub count-wrong : (n : ℕ) (rest : List ℕ) → n < 256 → (n ≡ 0) ⊎ (max
 count-wrong n rest h w =
     let e = sym (first-formed wiresDigits (wiresLine n ++ rest)) ∙ wires-starts n rest in
     read-faulty (wiresLine n ++ rest) wireCount 0
-    (sym (count-refused (wiresLine n ++ rest) e wireCount n (sym (wires-wrong n w)) (sym (pair-hex n h)) (λ z. omega arith)))
+    (sym (count-refused (wiresLine n ++ rest) e (sym (wires-wrong n w)) (sym (pair-hex n h)) (λ z. omega arith)))
 
 -- ---- the first fault, after the lines of a circuit
 
@@ -74,7 +76,8 @@ module _ (n : ℕ) (bytes rest : List ℕ) (is : Sayable n bytes) (more : 0 < le
       (circuit-pass n bytes is rest ∙ one-too-many rest 0 (length (gatesOf bytes)) more (omega (arith, length-gates bytes (is .whole))))
 
 -- every fault's number is at most 9 and its place at most 4,097, so two and four digits say them
-pub fault-small : (lent : ℕ) (t : List ℕ) (number place : ℕ) → readInto lent t ≡ faulty number place → (number ≤ malformed) × (place ≤ maxGates + 1)
+pub fault-small : (lent : ℕ) (t : List ℕ) (number place : ℕ) → readInto lent t ≡ faulty number place
+    → (number ≤ malformed) × (place ≤ maxGates + 1)
 fault-small lent t number place e = go (decLt lent maxListBytes)
   where
     same : (f p : ℕ) → faulty f p ≡ faulty number place → Small f p → Small number place
@@ -157,14 +160,14 @@ done-reads t gates gates′ n m c = go (decLt (length gates) maxListBytes)
 
 -- ---- the lines written
 
--- two digits spell a byte, and four a number below 2^16, high byte first
-pub hex2-spells : (v : ℕ) → v < 256 → spelled (hex2 v) ≡ v ∷ []
-unfolding spelled
-hex2-spells v h = rw (pair-hex v h)
+-- two digits stand for a byte, and four for a number below 2^16, high byte first
+pub hex2-decoded : (v : ℕ) → v < 256 → decoded (hex2 v) ≡ v ∷ []
+unfolding decoded
+hex2-decoded v h = rw (pair-hex v h)
 
-pub hex4-spells : (v : ℕ) → v < 256 * 256 → spelled (hex4 v) ≡ v / 256 ∷ v % 256 ∷ []
-unfolding spelled
-hex4-spells v h = rw (pair-hex (v / 256) (omega arith), pair-low v)
+pub hex4-decoded : (v : ℕ) → v < 256 * 256 → decoded (hex4 v) ≡ v / 256 ∷ v % 256 ∷ []
+unfolding decoded
+hex4-decoded v h = rw (pair-hex (v / 256) (omega arith), pair-low v)
 
 pub wires-line-long : (n : ℕ) → length (wiresLine n) ≡ wiresLineBytes
 wires-line-long n = refl
@@ -186,4 +189,5 @@ gate-lines-long (g ∷ gs) = length-append (gateLine g) (gateLines gs) ∙ omega
 -- the longest reply
 pub reply-fits : (n tIn oddSize tOut moves : ℕ) (gs : List Gate) → length gs ≤ maxWrittenGates
     → length (wiresLine n ++ countsLine tIn oddSize tOut moves ++ gateLines gs) ≤ replyBytes
-reply-fits n tIn oddSize tOut moves gs h = omega (arith, length-append (wiresLine n ++ countsLine tIn oddSize tOut moves) (gateLines gs), gate-lines-long gs)
+reply-fits n tIn oddSize tOut moves gs h =
+    omega (arith, length-append (wiresLine n ++ countsLine tIn oddSize tOut moves) (gateLines gs), gate-lines-long gs)

@@ -1,4 +1,4 @@
--- What is written reads back: a circuit's lines have no fault, and spell its bytes.
+-- What is written reads back: a circuit's lines have no fault, and stand for its bytes.
 use mathlib.Core.Bool.{true}
 use mathlib.Core.List.{List, [], _∷_, _++_, append-assoc, append-nil}
 use mathlib.Core.Path.{_∙_, _≡_, ap, ap₂, refl, sym}
@@ -16,13 +16,13 @@ use Rattle.text.proofs.LineForms.{first-formed, first-line, starts}
 use Rattle.text.proofs.TextFaults.{by-count, read-circuit, right}
 use Rattle.text.specs.Hex.{digit, hex2, isDigit, newline, valueOf}
 use Rattle.text.specs.Limits.{gateDigits, wiresDigits}
-use Rattle.text.specs.Lines.{byteAt, ended, firstFormed, formed, linesOf, linesSpell, pair, spelled}
+use Rattle.text.specs.Lines.{byteAt, decoded, ended, firstFormed, formed, linesDecoded, linesOf, pair}
 use Rattle.text.specs.Text.{Sayable, circuit, gatesFault, linesFault, readText}
 use Rattle.text.specs.Written.{gateLine, gateLines, textOf, wiresLine}
 
 -- ---- a byte and its two digits
 
--- the last two digits of a number spell its low byte
+-- the last two digits of a number stand for its low byte
 pub pair-low : (v : ℕ) → pair (digit (v / 16 % 16)) (digit (v % 16)) ≡ v % 256
 pair-low v = omega (arith, value-digit (v / 16 % 16) (omega arith) .value, value-digit (v % 16) (omega arith) .value)
 
@@ -50,7 +50,10 @@ wires-starts n t = starts-hex 0 n (newline ∷ t)
 
 pub gate-starts : (g : Gate) (t : List ℕ) → starts gateDigits (gateLine g ++ t) ≡ true
 unfolding starts
-gate-starts (gate kind a b) t = starts-hex 4 kind (hex2 a ++ hex2 b ++ newline ∷ t) ∙ starts-hex 2 a (hex2 b ++ newline ∷ t) ∙ starts-hex 0 b (newline ∷ t)
+gate-starts (gate kind a b) t =
+    starts-hex 4 kind (hex2 a ++ hex2 b ++ newline ∷ t)
+    ∙ starts-hex 2 a (hex2 b ++ newline ∷ t)
+    ∙ starts-hex 0 b (newline ∷ t)
 
 -- the digits of a gate
 abbrev digitsOf : Gate → List ℕ
@@ -65,7 +68,8 @@ gate-formed g =
     rw (gate-lines g []) at f
 
 -- gate lines that are written have no fault as long as they are few enough
-pub gates-pass : (gs : List Gate) (i : ℕ) (t : List ℕ) → i + length gs ≤ maxGates → gatesFault i (linesOf (gateLines gs ++ t)) ≡ gatesFault (i + length gs) (linesOf t)
+pub gates-pass : (gs : List Gate) (i : ℕ) (t : List ℕ) → i + length gs ≤ maxGates
+    → gatesFault i (linesOf (gateLines gs ++ t)) ≡ gatesFault (i + length gs) (linesOf t)
 unfolding gateLines
 gates-pass [] i t h = rw (add-zero i)
 gates-pass (g ∷ gs) i t h =
@@ -81,23 +85,26 @@ gates-pass (g ∷ gs) i t h =
 abbrev pub AllBytes : List ℕ → Type 0
 AllBytes bytes = (i : ℕ) → getD bytes i 0 < 256
 
-digits-spell : (kind a b : ℕ) → kind < 256 → a < 256 → b < 256 → spelled (digitsOf (gate kind a b)) ≡ kind ∷ a ∷ b ∷ []
-unfolding spelled
-digits-spell kind a b h k l = rw (pair-hex kind h, pair-hex a k, pair-hex b l)
+digits-decoded : (kind a b : ℕ) → kind < 256 → a < 256 → b < 256 → decoded (digitsOf (gate kind a b)) ≡ kind ∷ a ∷ b ∷ []
+unfolding decoded
+digits-decoded kind a b h k l = rw (pair-hex kind h, pair-hex a k, pair-hex b l)
 
-pub line-spells : (kind a b : ℕ) (t : List ℕ) → kind < 256 → a < 256 → b < 256
-    → linesSpell (linesOf (gateLine (gate kind a b) ++ t)) ≡ kind ∷ a ∷ b ∷ linesSpell (linesOf t)
-unfolding linesSpell
-line-spells kind a b t h k l = ap linesSpell (gate-lines (gate kind a b) t) ∙ ap (λ (x : List ℕ). x ++ linesSpell (linesOf t)) (digits-spell kind a b h k l)
+pub line-decoded : (kind a b : ℕ) (t : List ℕ) → kind < 256 → a < 256 → b < 256
+    → linesDecoded (linesOf (gateLine (gate kind a b) ++ t)) ≡ kind ∷ a ∷ b ∷ linesDecoded (linesOf t)
+unfolding linesDecoded
+line-decoded kind a b t h k l =
+    ap linesDecoded (gate-lines (gate kind a b) t)
+    ∙ ap (λ (x : List ℕ). x ++ linesDecoded (linesOf t)) (digits-decoded kind a b h k l)
 
-pub gates-spelled : (bytes : List ℕ) → length bytes % gateBytes ≡ 0 → AllBytes bytes → linesSpell (linesOf (gateLines (gatesOf bytes))) ≡ bytes
-unfolding gatesOf gateLines linesSpell linesOf
-gates-spelled [] w f = refl
-gates-spelled (kind ∷ []) w f = absurd (omega arith)
-gates-spelled (kind ∷ a ∷ []) w f = absurd (omega arith)
-gates-spelled (kind ∷ a ∷ b ∷ bytes) w f =
-    line-spells kind a b (gateLines (gatesOf bytes)) (f 0) (f 1) (f 2)
-    ∙ ap (λ (x : List ℕ). kind ∷ a ∷ b ∷ x) (gates-spelled bytes (omega arith) (λ i. f (suc (suc (suc i)))))
+pub gates-decoded : (bytes : List ℕ) → length bytes % gateBytes ≡ 0 → AllBytes bytes
+    → linesDecoded (linesOf (gateLines (gatesOf bytes))) ≡ bytes
+unfolding gatesOf gateLines linesDecoded linesOf
+gates-decoded [] w f = refl
+gates-decoded (kind ∷ []) w f = absurd (omega arith)
+gates-decoded (kind ∷ a ∷ []) w f = absurd (omega arith)
+gates-decoded (kind ∷ a ∷ b ∷ bytes) w f =
+    line-decoded kind a b (gateLines (gatesOf bytes)) (f 0) (f 1) (f 2)
+    ∙ ap (λ (x : List ℕ). kind ∷ a ∷ b ∷ x) (gates-decoded bytes (omega arith) (λ i. f (suc (suc (suc i)))))
 
 pub length-gates : (bytes : List ℕ) → length bytes % gateBytes ≡ 0 → gateBytes * length (gatesOf bytes) ≡ length bytes
 unfolding gatesOf
@@ -129,6 +136,7 @@ module _ (n : ℕ) (bytes : List ℕ) (is : Sayable n bytes) where
   pub written-reads : readText (textOf n bytes) ≡ circuit n bytes
   unfolding gatesFault linesOf
   written-reads =
-      let done : linesFault (linesOf (textOf n bytes)) ≡ Done = ap (λ (l : List ℕ). linesFault (linesOf l)) (sym (append-nil (textOf n bytes))) ∙ circuit-pass [] in
+      let done : linesFault (linesOf (textOf n bytes)) ≡ Done =
+      ap (λ (l : List ℕ). linesFault (linesOf l)) (sym (append-nil (textOf n bytes))) ∙ circuit-pass [] in
       read-circuit (textOf n bytes) done
-      ∙ ap₂ circuit (pair-hex n (omega (arith, is .few))) (gates-spelled bytes (is .whole) (is .byte))
+      ∙ ap₂ circuit (pair-hex n (omega (arith, is .few))) (gates-decoded bytes (is .whole) (is .byte))

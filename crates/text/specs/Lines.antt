@@ -1,5 +1,5 @@
--- Document 01, "Text form": a text's lines, each the bytes up to a newline. Bytes after the last newline, if there are any, are a line that lacks its
--- newline. An empty text has no line.
+-- Document 01, "Text form": a text's lines, each the bytes up to a newline. Bytes after the last newline, if there are any, are a line that
+-- lacks its newline. An empty text has no line.
 use mathlib.Core.Bool.{Bool, _&&_, cond, false, true}
 use mathlib.Core.List.{List, [], _∷_, _++_}
 use Prim.Native.Nat.{_*_, _+_, suc, zero, ℕ}
@@ -38,24 +38,24 @@ abbrev pub formed : ℕ → Line → Bool
 formed k (ended bs) = areDigits k bs
 formed k (unended bs) = false
 
--- the byte that two digits spell
+-- the byte that two digits stand for
 abbrev pub pair : ℕ → ℕ → ℕ
 pair a b = 16 * valueOf a + valueOf b
 
--- the bytes that digits spell, two digits each
-unfoldable pub spelled : List ℕ → List ℕ
-spelled [] = []
-spelled (a ∷ []) = []
-spelled (a ∷ b ∷ bs) = pair a b ∷ spelled bs
+-- the bytes that digits stand for, two digits each
+unfoldable pub decoded : List ℕ → List ℕ
+decoded [] = []
+decoded (a ∷ []) = []
+decoded (a ∷ b ∷ bs) = pair a b ∷ decoded bs
 
-abbrev pub lineSpells : Line → List ℕ
-lineSpells (ended bs) = spelled bs
-lineSpells (unended bs) = spelled bs
+abbrev pub lineDecoded : Line → List ℕ
+lineDecoded (ended bs) = decoded bs
+lineDecoded (unended bs) = decoded bs
 
--- the bytes that lines spell, one line after the other
-unfoldable pub linesSpell : List Line → List ℕ
-linesSpell [] = []
-linesSpell (l ∷ ls) = lineSpells l ++ linesSpell ls
+-- the bytes that lines stand for, one line after the other
+unfoldable pub linesDecoded : List Line → List ℕ
+linesDecoded [] = []
+linesDecoded (l ∷ ls) = lineDecoded l ++ linesDecoded ls
 
 -- ---- the same by places, as a loop over the bytes meets it
 
@@ -64,10 +64,10 @@ abbrev pub firstFormed : ℕ → List Line → Bool
 firstFormed k [] = false
 firstFormed k (l ∷ ls) = formed k l
 
--- the byte that the digits at places p and p + 1 spell
+-- the byte that the digits at places p and p + 1 stand for
 abbrev pub byteAt : List ℕ → ℕ → ℕ
 byteAt t p = pair (getD t p 0) (getD t (p + 1) 0)
 
 -- the three bytes of the gate whose digits start at place p
-abbrev pub gateSpelledAt : List ℕ → ℕ → List ℕ
-gateSpelledAt t p = byteAt t p ∷ byteAt t (p + 2) ∷ byteAt t (p + 4) ∷ []
+abbrev pub gateDecodedAt : List ℕ → ℕ → List ℕ
+gateDecodedAt t p = byteAt t p ∷ byteAt t (p + 2) ∷ byteAt t (p + 4) ∷ []

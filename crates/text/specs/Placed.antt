@@ -1,8 +1,8 @@
 -- Bytes put into a lent buffer.
-use mathlib.Core.List.{List, _++_}
+use mathlib.Core.List.{List}
 use mathlib.Core.Path.{_≡_}
 use Prim.Native.Nat.{_*_, _+_, ℕ}
-use lib.ListN.{drop, length, take}
+use lib.ListN.{length}
 use Rattle.circuit.specs.Limits.{gateBytes}
 use Rattle.circuit.specs.Lent.{placed}
 

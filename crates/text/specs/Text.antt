@@ -10,11 +10,11 @@ use Rattle.circuit.specs.Limits.{gateBytes, maxGates, maxListBytes, maxWires}
 use Rattle.circuit.specs.declared.Reply.{Reply}
 use Rattle.circuit.specs.declared.Reply.the-variants.{Done, Refused}
 use Rattle.text.specs.Limits.{byteValues, gateDigits, wiresDigits}
-use Rattle.text.specs.Lines.{Line, formed, lineSpells, linesOf, linesSpell}
+use Rattle.text.specs.Lines.{Line, formed, lineDecoded, linesOf, linesDecoded}
 
 -- n, of line one
 abbrev pub wiresIn : Line → ℕ
-wiresIn l = getD (lineSpells l) 0 0
+wiresIn l = getD (lineDecoded l) 0 0
 
 -- the first fault of the gate lines, the first of which is gate line i, counted from 0: line i + 2 of the text.
 -- Gate line 4,097 gives 2 whatever it holds
@@ -42,7 +42,7 @@ unlessRefused (Refused number place) t = faulty number place
 -- what lines without a fault say
 abbrev pub linesSay : List Line → Text
 linesSay [] = circuit 0 []
-linesSay (l ∷ ls) = circuit (wiresIn l) (linesSpell ls)
+linesSay (l ∷ ls) = circuit (wiresIn l) (linesDecoded ls)
 
 -- what a text is
 unfoldable pub readText : List ℕ → Text

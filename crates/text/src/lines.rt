@@ -12,6 +12,7 @@ ghost use Rattle.text.specs.Written.{countsLine, gateLine, gateLines, nu
 use crate::hex::NEWLINE;
 use crate::hex::SPACE;
 use crate::hex::last_digit;
+use circuit::copying::copy_bytes;
 use circuit::limits::GATE_BYTES;
 
 // A fault: `refused `, the number in two digits, a space and the place in four.
@@ -117,10 +118,7 @@ fn put(source: &[u8], out: &mut [u8], at: usize) -> usize
     requires { ⌜ at + length (now source) ≤ length (now out) ⌝ }
     ensures { λ r. ⌜ Writes (now (out .entry)) at (now (source .entry)) (now (out .exit)) r ⌝ }
 {
-    let mut j: usize = 0;
-    while j < source.len() {
-        out[at + j] = source[j];
-        j += 1;
-    }
-    at + j
+    let next = at + source.len();
+    copy_bytes(source, &mut out[at..next]);
+    next
 }

@@ -6,7 +6,7 @@ ghost use lib.Seq.{sets};
 ghost use Rattle.circuit.specs.Limits.{gateBytes, maxListBytes};
 ghost use Rattle.circuit.specs.declared.Reply.the-variants.{Done};
 ghost use Rattle.text.specs.Limits.{gateDigits, wiresLineBytes};
-ghost use Rattle.text.specs.Lines.{byteAt, firstFormed, gateSpelledAt, linesOf, linesSpell};
+ghost use Rattle.text.specs.Lines.{byteAt, firstFormed, gateDecodedAt, linesDecoded, linesOf};
 ghost use Rattle.text.specs.Placed.{Stores};
 ghost use Rattle.text.specs.Text.{gatesFault, linesFault};
 use crate::hex::NEWLINE;
@@ -18,11 +18,10 @@ use crate::limits::WIRES_DIGITS;
 use crate::limits::WIRES_LINE_BYTES;
 use circuit::Reply;
 use circuit::faults::LIST_LENGTH;
+use circuit::faults::MALFORMED;
 use circuit::faults::wires_fault;
 use circuit::limits::GATE_BYTES;
 use circuit::limits::MAX_GATES;
-
-pub const MALFORMED: u8 = 9;
 
 // The first fault of a text: of line one its form, then the count; then the gate lines.
 pub fn text_fault(text: &[u8]) -> Reply
@@ -91,7 +90,9 @@ fn line_formed(text: &[u8], at: usize, digits: usize) -> bool
 // Stores the gates of a text without a fault from the start of what is lent, and gives their number.
 pub fn store_gates(text: &[u8], gates: &mut [u8]) -> usize
     requires { ⌜ (maxListBytes ≤ length (now gates)) × (gatesFault 0 (linesOf (drop wiresLineBytes (now text))) ≡ Done) ⌝ }
-    ensures { λ r. ⌜ Stores (now (gates .entry)) (linesSpell (linesOf (drop wiresLineBytes (now (text .entry))))) (now (gates .exit)) r ⌝ }
+    ensures { λ r. ⌜
+        Stores (now (gates .entry)) (linesDecoded (linesOf (drop wiresLineBytes (now (text .entry))))) (now (gates .exit)) r
+        ⌝ }
 {
     let mut i: usize = 0;
     let mut at = WIRES_LINE_BYTES;
@@ -106,14 +107,14 @@ pub fn store_gates(text: &[u8], gates: &mut [u8]) -> usize
 // The gate whose line starts at `at`.
 fn store_gate(text: &[u8], at: usize, gates: &mut [u8], j: usize)
     requires { ⌜ (at + gateDigits < length (now text)) × (j + gateBytes ≤ length (now gates)) ⌝ }
-    ensures { λ _. ⌜ now (gates .exit) ≡ sets (now (gates .entry)) j (gateSpelledAt (now (text .entry)) at) ⌝ }
+    ensures { λ _. ⌜ now (gates .exit) ≡ sets (now (gates .entry)) j (gateDecodedAt (now (text .entry)) at) ⌝ }
 {
     gates[j] = byte_at(text, at);
     gates[j + 1] = byte_at(text, at + 2);
     gates[j + 2] = byte_at(text, at + 4);
 }
 
-// The byte that the two digits from `at` on spell.
+// The byte that the two digits from `at` on stand for.
 pub fn byte_at(text: &[u8], at: usize) -> u8
     requires { ⌜ at + 1 < length (now text) ⌝ }
     ensures { λ r. ⌜ r ≡ byteAt (now (text .entry)) at ⌝ }

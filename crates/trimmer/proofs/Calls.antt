@@ -1,31 +1,41 @@
--- What the calls for each move leave: what was searched on all wires holds on n, and the bytes found have the form of a move.
+-- What the calls for each move ask for and leave: what was searched on all wires holds on n, and the cells found have the form of a move.
 use mathlib.Core.Bool.{false, true}
 use mathlib.Core.List.{List}
-use mathlib.Core.Path.{_≡_}
-use Prim.Native.Nat.{ℕ, _≤_}
+use mathlib.Core.Path.{_≡_, refl}
+use Prim.Native.Nat.{ℕ}
 use native.Mathlib.Omega.{arith}
 use Rattle.carry.proofs.Conditions.{legal-said}
-use Rattle.carry.specs.Decides.{MoveForm}
-use Rattle.circuit.specs.Limits.{maxMembers, maxWires, parities}
-use Rattle.circuit.specs.Sound.{SoundMarks}
+use Rattle.circuit.specs.Limits.{maxMembers}
 use Rattle.finder.proofs.OnWires.{searched-legal, searched-none}
-use Rattle.moves.specs.Log.{LegalCells}
-use Rattle.moves.specs.Move.{Legal}
-use Rattle.trimmer.specs.Steps.{NextMove}
+use Rattle.finder.specs.Search.{Searched}
+use Rattle.moves.specs.Log.{LegalCells, MoveForm}
+use Rattle.moves.specs.Move.{NoneLegal}
+use Rattle.moves.specs.Search.{isFound}
+use Rattle.moves.specs.declared.Sought.{Sought}
+use Rattle.moves.specs.declared.Sought.the-variants.{Found, Nothing}
+use Rattle.trimmer.specs.Steps.{Marked, NextMove}
 
--- the bytes of a legal move have the form of one
-pub legal-form : (n : ℕ) (marks bytes : List ℕ) → LegalCells maxMembers n marks bytes → MoveForm maxMembers bytes
-legal-form n marks bytes f = legal-said maxMembers n marks bytes f .0
+-- the cells of a legal move have the form of one
+pub legal-form : {n : ℕ} {marks cells : List ℕ} → LegalCells maxMembers n marks cells → MoveForm maxMembers cells
+legal-form {n} {marks} {cells} f = legal-said maxMembers n marks cells f .0
 
-true-not-false : true ≡ false → ⊥
-true-not-false t = let z : _≡_ {A = ℕ} 0 1 = cc in omega arith
+pub searched-next : {n : ℕ} {marks was cells : List ℕ} → Marked n marks → (found : Sought) → Searched marks was cells found
+    → NextMove n marks found cells
+searched-next {n} {marks} {was} {cells} m Found s = searched-legal n (m .few) marks (m .sound) cells s
+searched-next {n} {marks} {was} {cells} m Nothing s = searched-none n (m .few) marks (m .sound) (s .1)
 
-false-not-true : false ≡ true → ⊥
-false-not-true t = let z : _≡_ {A = ℕ} 0 1 = cc in omega arith
+-- ---- what the loop's test tells
 
-module _ (n : ℕ) (fit : n ≤ maxWires) (marks : List ℕ) (sound : SoundMarks parities n marks) (cells : List ℕ) where
-  pub found-next : LegalCells maxMembers maxWires marks cells → NextMove n marks true cells
-  found-next f = record { some-move = λ t. searched-legal n fit marks sound cells f; no-move = λ t. absurd (true-not-false t) }
+pub found-is : (found : Sought) → isFound found ≡ true → found ≡ Found
+found-is Found e = refl
+found-is Nothing e = let z : _≡_ {A = ℕ} 0 1 = cc in absurd (omega arith)
 
-  pub nothing-next : ((z : ℕ) (Y : List ℕ) → Legal maxMembers maxWires marks z Y → ⊥) → NextMove n marks false cells
-  nothing-next none = record { some-move = λ t. absurd (false-not-true t); no-move = λ t. searched-none n fit marks sound none }
+pub nothing-is : (found : Sought) → isFound found ≡ false → found ≡ Nothing
+nothing-is Found e = let z : _≡_ {A = ℕ} 0 1 = cc in absurd (omega arith)
+nothing-is Nothing e = refl
+
+pub next-legal : {n : ℕ} {marks cells : List ℕ} {found : Sought} → found ≡ Found → NextMove n marks found cells → LegalCells maxMembers n marks cells
+next-legal e m = rw e at m
+
+pub next-none : {n : ℕ} {marks cells : List ℕ} {found : Sought} → found ≡ Nothing → NextMove n marks found cells → NoneLegal maxMembers n marks
+next-none e m = rw e at m

@@ -6,7 +6,7 @@ use Prim.Native.Nat.{_*_, _+_, _/_, _<_, ℕ}
 use native.Mathlib.Numerals.{add-one}
 use lib.ListN.{getD, length}
 use Rattle.circuit.proofs.Bytes.{gates-step, gates-tail, gatesFrom}
-use Rattle.circuit.specs.Gate.{isT, tGates}
+use Rattle.circuit.specs.Gate.{T, T-dagger, isT, tGates}
 use Rattle.circuit.specs.OddSet.{members}
 use Rattle.gf2.proofs.Sum.{delta-other, sum-suc}
 use Rattle.gf2.specs.Sum.{sum}
@@ -19,9 +19,9 @@ pub t-end : (bytes : List ℕ) (i : ℕ) → i ≡ length bytes / 3 → tGates (
 unfolding tGates
 t-end bytes i e = rw (gates-tail bytes i e)
 
-pub is-t-other : (kind : ℕ) → kind ≢ 2 → kind ≢ 6 → isT kind ≡ 0
+pub is-t-other : (kind : ℕ) → kind ≢ T → kind ≢ T-dagger → isT kind ≡ 0
 unfolding isT
-is-t-other kind a b = rw (delta-other 2 kind a, delta-other 6 kind b)
+is-t-other kind a b = rw (delta-other T kind a, delta-other T-dagger kind b)
 
 pub members-next : (marks : List ℕ) (p count x : ℕ) → count ≡ sum p (λ p. getD marks p 0) → x ≡ getD marks p 0 → count + x ≡ sum (p + 1) (λ p. getD marks p 0)
 members-next marks p count x e f = rw (add-one p, sum-suc p (λ p. getD marks p 0), e, f)

@@ -2,80 +2,128 @@
 use mathlib.Core.List.{List}
 use mathlib.Core.Path.{ap, subst, sym, _∙_, _≡_}
 use Prim.Native.Nat.{_*_, ℕ}
+use lib.ListN.{length}
 use Rattle.circuit.proofs.Sound.{read-sound}
 use Rattle.circuit.specs.Entry.{readBytes}
-use Rattle.circuit.specs.Faults.{Accepted}
 use Rattle.circuit.specs.Gate.{Gate, gatesOf, tGates}
+use Rattle.circuit.specs.Lent.{KeptFrom, frontGates, readingLent, rowsLent, weightsLent}
 use Rattle.circuit.specs.Limits.{gateBytes, maxMembers, maxWires, moveCells, parities}
 use Rattle.circuit.specs.OddSet.{members, oddSet}
 use Rattle.circuit.specs.Read.{Reading, read}
-use Rattle.circuit.specs.Sound.{SoundMarks, SoundReading, SoundRows, SoundWeights}
-use Rattle.circuit.specs.Lent.{KeptFrom, frontGates}
+use Rattle.circuit.specs.Sound.{SoundReading, SoundRows, SoundWeights}
 use Rattle.moves.proofs.Laws.{limits-suffice}
 use Rattle.moves.specs.Log.{logged}
 use Rattle.moves.specs.Replay.{Replays}
-use Rattle.phase.proofs.Laws.{new-weights-sound}
+use Rattle.phase.proofs.Laws.{new-weights-sound, odd-set-is-sound}
 use Rattle.phase.specs.NewWeights.{newWeights}
 use Rattle.synth.specs.Entry.{Wrote, WroteBytes}
-use Rattle.trimmer.proofs.Making.{still-sound}
-use Rattle.trimmer.proofs.Whole.{odd-set-sound, whole}
-use Rattle.trimmer.specs.Entry.{Done-with, Writes-read, writtenOf}
-use Rattle.trimmer.specs.Steps.{AllMade}
+use Rattle.synth.specs.Faults.{Writable}
+use Rattle.trimmer.proofs.Making.{Turn, still-marked}
+use Rattle.trimmer.proofs.Whole.{whole}
+use Rattle.trimmer.specs.Entry.{Done-with, Trimmable, Writes-read}
+use Rattle.trimmer.specs.Steps.{AllMade, Marked}
 use Rattle.trimmer.specs.Trimmed.{Trimmed, oddSetOf, weightsOf}
 use Rattle.trimmer.specs.declared.Counts.{Counts}
 
-module _ (n : ℕ) (bytes : List ℕ) (accepted : Accepted n bytes) (w rows : List ℕ) (reads : record { weights = w; rows = rows } ≡ readBytes n bytes) where
-  C : List Gate
-  C = gatesOf bytes
+-- C is read: its weights and rows
+pub record ReadC (n : ℕ) (bytes out log w rows : List ℕ) : Type 0 where
+  pub trimmable : Trimmable n bytes out log
+  pub reads : readingLent w rows ≡ readBytes n bytes
 
+module _ {n : ℕ} {bytes out log w rows : List ℕ} (c : ReadC n bytes out log w rows) where
   w-is : w ≡ weightsOf n (gatesOf bytes)
-  w-is = ap (λ (r : Reading). r .weights) reads
+  w-is = ap (λ (r : Reading). r .weights) (c .reads)
 
   rows-is : rows ≡ read maxWires n (gatesOf bytes) .rows
-  rows-is = ap (λ (r : Reading). r .rows) reads
+  rows-is = ap (λ (r : Reading). r .rows) (c .reads)
 
   sound : SoundReading maxWires n (readBytes n bytes)
-  sound = read-sound maxWires n (accepted .few) (gatesOf bytes) (accepted .formed)
+  sound = read-sound maxWires n (c .trimmable .accepted .few) (gatesOf bytes) (c .trimmable .accepted .formed)
 
   pub sound-weights : SoundWeights parities n w
   sound-weights = subst (λ (x : List ℕ). SoundWeights parities n x) (sym w-is) (sound .weights)
 
-  pub sound-rows : SoundRows maxWires n rows
+  sound-rows : SoundRows maxWires n rows
   sound-rows = subst (λ (x : List ℕ). SoundRows maxWires n x) (sym rows-is) (sound .rows)
 
-  module _ (first : List ℕ) (odd : first ≡ oddSet w) where
-    first-is : first ≡ oddSetOf n (gatesOf bytes)
-    first-is = odd ∙ ap oddSet w-is
+-- its odd set is marked
+pub record MarkedC (n : ℕ) (bytes out log w rows first : List ℕ) : Type 0 where
+  pub read : ReadC n bytes out log w rows
+  pub odd : first ≡ oddSet w
 
-    pub sound-first : SoundMarks parities n first
-    sound-first = subst (λ (x : List ℕ). SoundMarks parities n x) (sym odd) (odd-set-sound parities n w sound-weights)
+module _ {n : ℕ} {bytes out log w rows first : List ℕ} (c : MarkedC n bytes out log w rows first) where
+  first-is : first ≡ oddSetOf n (gatesOf bytes)
+  first-is = c .odd ∙ ap oddSet (w-is (c .read))
 
-    module _ (log log′ : List ℕ) (k : ℕ) (last : List ℕ) (all : AllMade n first log k last log′) where
-      pub sound-last : SoundMarks parities n last
-      sound-last = still-sound n (accepted .few) first log sound-first k last log′ (all .made)
+  pub marked-first : Marked n first
+  marked-first =
+      record {
+        some = c .read .trimmable .accepted .some;
+        few = c .read .trimmable .accepted .few;
+        sound = rw (c .odd) (odd-set-is-sound parities n w (sound-weights (c .read)));
+      }
 
-      replayed : Replays maxMembers n (oddSetOf n (gatesOf bytes)) (logged moveCells log′ k) last
-      replayed = subst (λ (x : List ℕ). Replays maxMembers n x (logged moveCells log′ k) last) first-is (all .made .replayed)
+-- the moves are made
+pub record MovedC (n : ℕ) (bytes out log w rows first : List ℕ) (k : ℕ) (last log′ : List ℕ) : Type 0 where
+  pub marked : MarkedC n bytes out log w rows first
+  pub all : AllMade n first log k last log′
 
-      module _ (new : List ℕ) (new-is : new ≡ newWeights parities n w last) where
-        pub sound-new : SoundWeights parities n new
-        sound-new = subst (λ (x : List ℕ). SoundWeights parities n x) (sym new-is) (new-weights-sound parities n (limits-suffice n (accepted .few) .0) w last sound-last)
+module _ {n : ℕ} {bytes out log w rows first : List ℕ} {k : ℕ} {last log′ : List ℕ} (c : MovedC n bytes out log w rows first k last log′) where
+  turn : Turn n first log k last log′
+  turn = record { first = marked-first (c .marked); room = c .marked .read .trimmable .log-room; made = c .all .made }
 
-        pub finish : (out out′ : List ℕ) (count : ℕ) → WroteBytes n new rows out out′ count → (counts : Counts) → counts .tin ≡ tGates (gatesOf bytes) → counts .odd ≡ members first
-            → counts .tout ≡ members last → counts .moves ≡ k → counts .gates ≡ count → Done-with n bytes out log out′ log′ counts
-        finish out out′ count wrote counts tin odd′ tout moves gates =
-            let D : List Gate = frontGates count out′ in
-            let list = wrote .list in
-            let wD : weightsOf n D ≡ newWeights parities n (weightsOf n (gatesOf bytes)) last = ap (λ (r : Reading). r .weights) (list .reads) ∙ new-is ∙ ap (λ (x : List ℕ). newWeights parities n x last) w-is in
-            let rD : read maxWires n D .rows ≡ read maxWires n (gatesOf bytes) .rows = ap (λ (r : Reading). r .rows) (list .reads) ∙ rows-is in
-            let tD : tGates D ≡ members (oddSetOf n D) = list .t-gates ∙ ap (λ (r : Reading). members (oddSet (r .weights))) (sym (list .reads)) in
-            let written-list : Writes-read n D = subst (λ (r : Reading). Wrote maxWires n (r .weights) (r .rows) D) (sym (list .reads)) list in
-            record {
-              trimmed =
-                  subst (λ (j : ℕ). Trimmed n (gatesOf bytes) (writtenOf out′ j) log′ counts) (sym gates)
-                  (whole n (accepted .few) (gatesOf bytes) (accepted .formed) log′ k last replayed (all .none) D (list .formed) wD rD tD counts tin (odd′ ∙ ap members first-is) tout moves
-                  (gates ∙ wrote .counted));
-              written = subst (λ (j : ℕ). Writes-read n (writtenOf out′ j)) (sym gates) written-list;
-              gates-kept = subst (λ (j : ℕ). KeptFrom (gateBytes * j) out out′) (sym gates) (record { long = wrote .long; rest = wrote .rest });
-              log-kept = subst (λ (j : ℕ). KeptFrom (moveCells * j) log log′) (sym moves) (record { long = all .made .long; rest = all .made .rest });
-            }
+  pub marked-last : Marked n last
+  marked-last = still-marked turn
+
+  replayed : Replays maxMembers n (oddSetOf n (gatesOf bytes)) (logged moveCells log′ k) last
+  replayed =
+      subst (λ (x : List ℕ). Replays maxMembers n x (logged moveCells log′ k) last) (first-is (c .marked)) (c .all .made .replayed)
+
+-- the new weights are found
+pub record WeighedC (n : ℕ) (bytes out log w rows first : List ℕ) (k : ℕ) (last log′ new : List ℕ) : Type 0 where
+  pub moved : MovedC n bytes out log w rows first k last log′
+  pub new-is : new ≡ newWeights parities n w last
+
+module _ {n : ℕ} {bytes out log w rows first : List ℕ} {k : ℕ} {last log′ new : List ℕ}
+    (c : WeighedC n bytes out log w rows first k last log′ new) where
+  abbrev read-C : ReadC n bytes out log w rows
+  read-C = c .moved .marked .read
+
+  abbrev C : List Gate
+  C = gatesOf bytes
+
+  pub writable : Writable n new rows (length out)
+  writable =
+      record {
+        some = marked-last (c .moved) .some;
+        few = marked-last (c .moved) .few;
+        room = read-C .trimmable .out-room;
+        weights-sound =
+            rw (c .new-is)
+            (new-weights-sound parities n (limits-suffice n (marked-last (c .moved) .few) .0) w last (marked-last (c .moved) .sound));
+        rows-sound = sound-rows read-C;
+      }
+
+  -- D is written, and all is counted
+  pub finish : {out′ : List ℕ} {count : ℕ} → WroteBytes n new rows out out′ count → (counts : Counts) → counts .tin ≡ tGates C
+      → counts .odd ≡ members first → counts .tout ≡ members last → counts .moves ≡ k → counts .gates ≡ count
+      → Done-with n bytes out log out′ log′ counts
+  finish {out′} {count} wrote counts tin odd tout moves gates =
+      let D : List Gate = frontGates count out′ in
+      let list = wrote .list in
+      let accepted = read-C .trimmable .accepted in
+      let wD : weightsOf n D ≡ newWeights parities n (weightsOf n C) last =
+      ap (λ (r : Reading). r .weights) (list .reads) ∙ c .new-is ∙ ap (λ (x : List ℕ). newWeights parities n x last) (w-is read-C) in
+      let rD : read maxWires n D .rows ≡ read maxWires n C .rows = ap (λ (r : Reading). r .rows) (list .reads) ∙ rows-is read-C in
+      let tD : tGates D ≡ members (oddSetOf n D) = list .t-gates ∙ ap (λ (r : Reading). members (oddSet (r .weights))) (sym (list .reads)) in
+      let written-list : Writes-read n D =
+      subst (λ (r : Reading). Wrote maxWires n (weightsLent r) (rowsLent r) D) (sym (list .reads)) list in
+      record {
+        trimmed =
+            subst (λ (j : ℕ). Trimmed n C (frontGates j out′) log′ counts) (sym gates)
+            (whole n (accepted .few) C (accepted .formed) log′ k last (replayed (c .moved)) (c .moved .all .none) D (list .formed) wD rD tD
+            counts tin (odd ∙ ap members (first-is (c .moved .marked))) tout moves (gates ∙ wrote .counted));
+        written = subst (λ (j : ℕ). Writes-read n (frontGates j out′)) (sym gates) written-list;
+        gates-kept = subst (λ (j : ℕ). KeptFrom (gateBytes * j) out out′) (sym gates) (wrote .kept);
+        log-kept = subst (λ (j : ℕ). KeptFrom (moveCells * j) log log′) (sym moves) (c .moved .all .made .kept);
+      }

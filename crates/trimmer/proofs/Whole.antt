@@ -5,8 +5,7 @@ use mathlib.Core.Path.{ap, ap₂, sym, _∙_, _≡_}
 use Prim.Native.Nat.{_+_, _<_, _^_, ℕ, _≤_}
 use native.Mathlib.Omega.{arith}
 use lib.ListN.{length}
-use lib.Pow.{high}
-use Rattle.circuit.proofs.OddSet.{length-odd, odd-mark, odd-set-at-most-t}
+use Rattle.circuit.proofs.OddSet.{odd-set-at-most-t}
 use Rattle.circuit.proofs.ReadRuns.{read-runs}
 use Rattle.circuit.proofs.Sound.{read-sound}
 use Rattle.circuit.specs.Faults.{AllWellFormed}
@@ -14,32 +13,20 @@ use Rattle.circuit.specs.Gate.{Gate, tGates}
 use Rattle.circuit.specs.Limits.{maxMembers, maxWires, moveCells, parities}
 use Rattle.circuit.specs.OddSet.{members, oddSet}
 use Rattle.circuit.specs.Read.{read}
-use Rattle.circuit.specs.Run.{run}
+use Rattle.circuit.specs.Run.{SameAction}
 use Rattle.circuit.specs.Says.{endState, phaseAt}
-use Rattle.circuit.specs.Sound.{SoundMarks, SoundWeights}
-use Rattle.moves.proofs.Bound.{bound}
+use Rattle.circuit.specs.Sound.{SoundMarks}
 use Rattle.moves.proofs.Laws.{limits-suffice, none-legal-bound}
 use Rattle.moves.proofs.Logs.{logged-length}
 use Rattle.moves.proofs.Replaying.{replays-shrinks, replays-signature, replays-sound, signature-trans}
 use Rattle.moves.specs.Log.{logged}
-use Rattle.moves.specs.Move.{Legal}
+use Rattle.moves.specs.Move.{NoneLegal}
 use Rattle.moves.specs.Replay.{Replays}
-use Rattle.phase.proofs.Laws.{new-weights-odd-set, new-weights-same-phases, odd-set-has-signature}
-use Rattle.phase.proofs.Sums.{C}
+use Rattle.phase.proofs.Laws.{new-weights-odd-set, new-weights-same-phases, odd-set-has-signature, odd-set-is-sound}
 use Rattle.phase.specs.NewWeights.{newWeights}
 use Rattle.phase.specs.Signature.{SameSignature}
 use Rattle.trimmer.specs.Trimmed.{Trimmed, oddSetOf, weightsOf}
 use Rattle.trimmer.specs.declared.Counts.{Counts}
-
--- the odd set of sound weights is sound
-pub odd-set-sound : (size n : ℕ) (w : List ℕ) → SoundWeights size n w → SoundMarks size n (oddSet w)
-odd-set-sound size n w s =
-    record {
-      long = length-odd w ∙ s .long;
-      bits = λ p. rw (odd-mark w p) (omega arith);
-      none = odd-mark w 0 ∙ rw (s .none);
-      high = λ p h. odd-mark w p ∙ rw (s .high p h);
-    }
 
 module _ (n : ℕ) (fit : n ≤ maxWires) (C : List Gate) (fC : AllWellFormed n C) (log : List ℕ) (k : ℕ) (marks : List ℕ)
     (replayed : Replays maxMembers n (oddSetOf n C) (logged moveCells log k) marks) where
@@ -47,7 +34,7 @@ module _ (n : ℕ) (fit : n ≤ maxWires) (C : List Gate) (fC : AllWellFormed n 
   w = weightsOf n C
 
   first : SoundMarks parities n (oddSetOf n C)
-  first = odd-set-sound parities n (weightsOf n C) (read-sound maxWires n fit C fC .weights)
+  first = odd-set-is-sound parities n (weightsOf n C) (read-sound maxWires n fit C fC .weights)
 
   pub marks-sound : SoundMarks parities n marks
   marks-sound = replays-sound parities n maxMembers (limits-suffice n fit .0) (oddSetOf n C) (logged moveCells log k) marks first replayed
@@ -62,7 +49,7 @@ module _ (n : ℕ) (fit : n ≤ maxWires) (C : List Gate) (fC : AllWellFormed n 
       (replays-signature parities n maxMembers (limits-suffice n fit .0) (oddSetOf n C) (logged moveCells log k) marks first replayed)
       (odd-set-has-signature n (weightsOf n C))
 
-  module _ (none : (z : ℕ) (Y : List ℕ) → Legal maxMembers n marks z Y → ⊥) (D : List Gate) (fD : AllWellFormed n D)
+  module _ (none : NoneLegal maxMembers n marks) (D : List Gate) (fD : AllWellFormed n D)
       (wD : weightsOf n D ≡ newWeights parities n (weightsOf n C) marks) (rD : read maxWires n D .rows ≡ read maxWires n C .rows)
       (tD : tGates D ≡ members (oddSetOf n D)) where
     odd-D : oddSetOf n D ≡ marks
@@ -71,7 +58,7 @@ module _ (n : ℕ) (fit : n ≤ maxWires) (C : List Gate) (fC : AllWellFormed n 
     phases : (x : ℕ) → x < 2 ^ n → phaseAt n (weightsOf n D) x ≡ phaseAt n (weightsOf n C) x
     phases x h = ap (λ (v : List ℕ). phaseAt n v x) wD ∙ new-weights-same-phases parities n (limits-suffice n fit .0) (weightsOf n C) marks marks-sound same x h
 
-    acts : (x : ℕ) → x < 2 ^ n → run D x ≡ run C x
+    acts : SameAction n C D
     acts x h =
         read-runs maxWires n fit D fD x h
         ∙ ap₂ (λ (b φ : ℕ). record { bits = b; phase = φ }) (ap (λ (rows : List ℕ). endState n rows x) rD) (phases x h)

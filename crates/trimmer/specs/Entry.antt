@@ -1,10 +1,11 @@
 -- The entry `trim`: its reply, and what it leaves in the lent gates and the lent log, for sound and faulty arguments alike.
 use mathlib.Core.List.{List}
 use mathlib.Core.Path.{_≡_}
-use Prim.Native.Nat.{_*_, ℕ}
-use lib.ListN.{drop, length, take}
-use Rattle.circuit.specs.Faults.{firstFault, listCallFault, listFault, orElse, refuse, shortFault, wiresFault}
+use Prim.Native.Nat.{_*_, _≤_, ℕ}
+use lib.ListN.{length}
+use Rattle.circuit.specs.Faults.{Accepted, listReply, orElse, shortFault}
 use Rattle.circuit.specs.Gate.{Gate, gatesOf}
+use Rattle.circuit.specs.Lent.{KeptFrom, frontGates, rowsLent, weightsLent}
 use Rattle.circuit.specs.Limits.{gateBytes, logCells, maxWires, moveCells, writeBytes}
 use Rattle.circuit.specs.Read.{read}
 use Rattle.synth.specs.Entry.{Wrote}
@@ -13,20 +14,25 @@ use Rattle.trimmer.specs.declared.Counts.{Counts}
 use Rattle.trimmer.specs.declared.TrimReply.{TrimReply}
 use Rattle.trimmer.specs.declared.TrimReply.the-variants.{Done, Refused}
 use Rattle.circuit.specs.declared.Reply.{Reply}
-use Rattle.circuit.specs.Lent.{KeptFrom, frontGates}
 use Rattle.circuit.specs.declared.Reply.the-variants as reply
 
--- 1, 2 and 8, by the lengths of the list, the gates lent and the log lent
-unfoldable pub trimFault : ℕ → ℕ → ℕ → ℕ → ℕ
-trimFault n bytes out log = listCallFault n bytes (orElse (shortFault out writeBytes) (shortFault log logCells))
+-- 8, by the lengths of the gates lent and of the log lent
+abbrev pub trimLent : ℕ → ℕ → ℕ
+trimLent out log = orElse (shortFault out writeBytes) (shortFault log logCells)
 
 -- the first fault, from what goes in alone: 1, 2, 8, then 3, 4, 5 by gate; nothing else is refused
 abbrev pub verdict : ℕ → List ℕ → ℕ → ℕ → Reply
-verdict n bytes out log = refuse (trimFault n (length bytes) out log) 0 (firstFault n 0 (gatesOf bytes))
+verdict n bytes out log = listReply n bytes (trimLent out log)
+
+-- an accepted C, and outputs that are long enough
+pub record Trimmable (n : ℕ) (bytes out log : List ℕ) : Type 0 where
+  pub accepted : Accepted n bytes
+  pub out-room : writeBytes ≤ length out
+  pub log-room : logCells ≤ length log
 
 -- what the papers say of a written list holds of this one, for the weights and rows that reading it gives
 abbrev pub Writes-read : ℕ → List Gate → Type 0
-Writes-read n D = Wrote maxWires n (read maxWires n D .weights) (read maxWires n D .rows) D
+Writes-read n D = Wrote maxWires n (weightsLent (read maxWires n D)) (rowsLent (read maxWires n D)) D
 
 -- an accepted C is trimmed
 pub record Done-with (n : ℕ) (bytes out log out′ log′ : List ℕ) (counts : Counts) : Type 0 where

@@ -1,23 +1,37 @@
 -- What the steps of the trim give each other.
-use mathlib.Core.Bool.{Bool, false, true}
 use mathlib.Core.List.{List}
 use mathlib.Core.Path.{_≡_}
-use Prim.Native.Nat.{_*_, _+_, ℕ}
-use lib.ListN.{drop, length}
-use Rattle.circuit.specs.Limits.{maxMembers, moveCells}
+use Prim.Native.Nat.{_*_, _+_, _<_, _≤_, ℕ}
 use Rattle.circuit.specs.Lent.{KeptFrom}
+use Rattle.circuit.specs.Limits.{maxMembers, maxWires, moveCells, parities}
+use Rattle.circuit.specs.Sound.{SoundMarks}
 use Rattle.moves.specs.CarryOut.{carryOut}
 use Rattle.moves.specs.Log.{LegalCells, logged, setOf, zOf}
-use Rattle.moves.specs.Move.{Legal}
+use Rattle.moves.specs.Move.{NoneLegal}
 use Rattle.moves.specs.Replay.{Replays}
+use Rattle.moves.specs.declared.Sought.{Sought}
+use Rattle.moves.specs.declared.Sought.the-variants.{Found, Nothing}
 
--- a legal move for the marks, or none at all
-pub record NextMove (n : ℕ) (marks : List ℕ) (found : Bool) (cells : List ℕ) : Type 0 where
-  pub some-move : found ≡ true → LegalCells maxMembers n marks cells
-  pub no-move : found ≡ false → (z : ℕ) (Y : List ℕ) → Legal maxMembers n marks z Y → ⊥
+-- what a search said of the marks: a legal move, or none at all
+abbrev pub NextMove : ℕ → List ℕ → Sought → List ℕ → Type 0
+NextMove n marks Found cells = LegalCells maxMembers n marks cells
+NextMove n marks Nothing cells = NoneLegal maxMembers n marks
+
+-- a wire count and marks that the steps take
+pub record Marked (n : ℕ) (marks : List ℕ) : Type 0 where
+  pub some : 1 ≤ n
+  pub few : n ≤ maxWires
+  pub sound : SoundMarks parities n marks
+
+-- a move was found, and there is another for which the count has room
+pub record Movable (n : ℕ) (marks : List ℕ) (found : Sought) (cells : List ℕ) (count : ℕ) : Type 0 where
+  pub marked : Marked n marks
+  pub next : NextMove n marks found cells
+  pub is-found : found ≡ Found
+  pub counted : count < parities
 
 -- the move f, carried out on the marks; and what is found then
-pub record Stepped (n : ℕ) (marks f : List ℕ) (k : ℕ) (marks′ : List ℕ) (k′ : ℕ) (found : Bool) (cells : List ℕ) : Type 0 where
+pub record Stepped (n : ℕ) (marks f : List ℕ) (k : ℕ) (marks′ : List ℕ) (k′ : ℕ) (found : Sought) (cells : List ℕ) : Type 0 where
   pub marks-left : marks′ ≡ carryOut marks (zOf f) (setOf f)
   pub one-more : k′ ≡ k + 1
   pub next : NextMove n marks′ found cells
@@ -30,4 +44,4 @@ pub record Made (n : ℕ) (m before : List ℕ) (k : ℕ) (marks log : List ℕ)
 -- all legal moves made: k of them, and none is left
 pub record AllMade (n : ℕ) (m before : List ℕ) (k : ℕ) (marks log : List ℕ) : Type 0 where
   pub made : Made n m before k marks log
-  pub none : (z : ℕ) (Y : List ℕ) → Legal maxMembers n marks z Y → ⊥
+  pub none : NoneLegal maxMembers n marks

@@ -1,16 +1,16 @@
 -- Demand 3, whole: one statement about C, D, the log and the counts. Its fields follow the demand's sentences, in its order.
 use mathlib.Core.List.{List}
 use mathlib.Core.Path.{_≡_}
-use Prim.Native.Nat.{_*_, _+_, _/_, _<_, _^_, ℕ, _≤_}
+use Prim.Native.Nat.{_*_, _+_, _/_, ℕ, _≤_}
 use lib.ListN.{length}
 use Rattle.circuit.specs.Faults.{AllWellFormed}
 use Rattle.circuit.specs.Gate.{Gate, tGates}
 use Rattle.circuit.specs.Limits.{maxMembers, maxWires, moveCells, parities}
 use Rattle.circuit.specs.OddSet.{members, oddSet}
 use Rattle.circuit.specs.Read.{read}
-use Rattle.circuit.specs.Run.{SameAction, run}
+use Rattle.circuit.specs.Run.{SameAction}
 use Rattle.moves.specs.Log.{logged}
-use Rattle.moves.specs.Move.{Legal}
+use Rattle.moves.specs.Move.{NoneLegal}
 use Rattle.moves.specs.Replay.{Replays}
 use Rattle.phase.specs.NewWeights.{newWeights}
 use Rattle.trimmer.specs.declared.Counts.{Counts}
@@ -41,7 +41,7 @@ pub record Trimmed (n : ℕ) (C D : List Gate) (log : List ℕ) (counts : Counts
   -- D's weights are document 01's new weights for C and that set
   pub weights : weightsOf n D ≡ newWeights parities n (weightsOf n C) (oddSetOf n D)
   -- no z and Y make a legal move from D's odd set
-  pub finished : (z : ℕ) (Y : List ℕ) → Legal maxMembers n (oddSetOf n D) z Y → ⊥
+  pub finished : NoneLegal maxMembers n (oddSetOf n D)
   -- the reported number of moves is the log's: that many are read from its start, each of them legal by `replayed`
   pub moves-logged : length (logged moveCells log (counts .moves)) ≡ counts .moves
   -- and the other reported counts are those of C and D

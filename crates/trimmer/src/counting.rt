@@ -5,7 +5,10 @@ ghost use lib.ListN.{length};
 ghost use Rattle.circuit.specs.Gate.{isT, tGates, gatesOf};
 ghost use Rattle.circuit.specs.Limits.{tableBytes};
 ghost use Rattle.circuit.specs.OddSet.{members};
+use circuit::gates::T;
+use circuit::gates::T_DAGGER;
 use circuit::limits::GATE_BYTES;
+use circuit::limits::Mark;
 use circuit::limits::PARITIES;
 use circuit::limits::TABLE_BYTES;
 
@@ -27,14 +30,14 @@ fn is_t(kind: u8) -> usize
     ensures { λ r. ⌜ (r ≡ isT kind) × (r < 2) ⌝ }
 {
     match kind {
-        2 => 1,
-        6 => 1,
+        T => 1,
+        T_DAGGER => 1,
         _ => 0,
     }
 }
 
 // How many parities are marked.
-pub fn members_of(marks: &[u8; TABLE_BYTES]) -> usize
+pub fn members_of(marks: &[Mark; TABLE_BYTES]) -> usize
     requires { ⌜ length (now marks) ≡ tableBytes ⌝ }
     ensures { λ r. ⌜ r ≡ members (now (marks .entry)) ⌝ }
 {

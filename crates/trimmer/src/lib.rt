@@ -2,28 +2,24 @@
 // Public entry: `trim`. Its promise is the record TrimList of specs/Entry; for an accepted circuit it is demand 3 whole, the record
 // Trimmed of specs/Trimmed.
 
-ghost use Prim.Native.Nat.{_≤_};
-ghost use lib.ListN.{length};
-ghost use Rattle.circuit.specs.Faults.{Accepted};
-ghost use Rattle.circuit.specs.Limits.{logCells, writeBytes};
-ghost use Rattle.trimmer.specs.Entry.{Done-with, TrimList};
+ghost use Rattle.trimmer.specs.Entry.{Done-with, TrimList, Trimmable};
 
 pub mod counting;
 pub mod faults;
-pub mod logging;
 pub mod moving;
-pub mod tables;
+pub mod steps;
 
 use circuit::Reply;
-use circuit::faults::first_fault;
+use circuit::faults::list_reply;
+use circuit::limits::MoveCell;
 use circuit::reading::read_gates;
 use counting::members_of;
 use counting::t_gates;
-use faults::trim_fault;
+use faults::trim_lent;
 use moving::make_moves;
-use tables::odd_marks;
-use tables::weights_for;
-use tables::write_list;
+use steps::odd_marks;
+use steps::weights_for;
+use steps::write_list;
 
 // The counts of a trim: T and T dagger gates of C, the size of its odd set, T and T dagger gates of D, the moves in the log, the gates
 // of D.
@@ -41,17 +37,10 @@ pub enum TrimReply {
 }
 
 // Trims a circuit: writes D into `out` and the moves into `log`. A refusal leaves both as they were.
-pub fn trim(n: usize, gates: &[u8], out: &mut [u8], log: &mut [u8]) -> TrimReply
+pub fn trim(n: usize, gates: &[u8], out: &mut [u8], log: &mut [MoveCell]) -> TrimReply
     ensures { λ r. ⌜ TrimList n (now (gates .entry)) (now (out .entry)) (now (log .entry)) (now (out .exit)) (now (log .exit)) r ⌝ }
 {
-    let fault = trim_fault(n, gates.len(), out.len(), log.len());
-    if fault != 0 {
-        return TrimReply::Refused {
-            number: fault,
-            place: 0,
-        };
-    }
-    let found = first_fault(n, gates);
+    let found = list_reply(n, gates, trim_lent(out.len(), log.len()));
     if let Reply::Refused { number, place } = found {
         return TrimReply::Refused {
             number: number,
@@ -62,8 +51,8 @@ pub fn trim(n: usize, gates: &[u8], out: &mut [u8], log: &mut [u8]) -> TrimReply
 }
 
 // The trim of an accepted circuit.
-fn trim_accepted(n: usize, gates: &[u8], out: &mut [u8], log: &mut [u8]) -> Counts
-    requires { ⌜ Accepted n (now gates) × (writeBytes ≤ length (now out)) × (logCells ≤ length (now log)) ⌝ }
+fn trim_accepted(n: usize, gates: &[u8], out: &mut [u8], log: &mut [MoveCell]) -> Counts
+    requires { ⌜ Trimmable n (now gates) (now out) (now log) ⌝ }
     ensures { λ r. ⌜ Done-with n (now (gates .entry)) (now (out .entry)) (now (log .entry)) (now (out .exit)) (now (log .exit)) r ⌝ }
 {
     let t = read_gates(n, gates);

@@ -1,44 +1,45 @@
 // Making legal moves until none is left.
 ghost use mathlib.Core.Path.{_≡_};
-ghost use mathlib.Core.Bool.{true};
-ghost use Prim.Native.Nat.{_≤_, _<_};
+ghost use Prim.Native.Nat.{_≤_};
 ghost use lib.ListN.{length};
-ghost use Rattle.circuit.specs.Limits.{logCells, maxWires, parities};
-ghost use Rattle.circuit.specs.Sound.{SoundMarks};
-ghost use Rattle.trimmer.specs.Steps.{AllMade, NextMove, Stepped};
-use crate::logging::put_move;
-use crate::tables::Next;
-use crate::tables::moved;
-use crate::tables::next_move;
+ghost use Rattle.circuit.specs.Limits.{logCells};
+ghost use Rattle.trimmer.specs.Steps.{AllMade, Marked, Movable, NextMove, Stepped};
+use crate::steps::moved;
+use crate::steps::next_move;
+use circuit::copying::put_parities;
 use circuit::limits::MOVE_CELLS;
+use circuit::limits::Mark;
+use circuit::limits::MoveCell;
 use circuit::limits::TABLE_BYTES;
+use moves::Sought;
+use moves::is_found;
 
-// The marks after the moves so far and their number, and what the finder says of these marks.
+// The marks after the moves so far and their number, and what a search found for these marks.
 pub struct Moving {
-    pub marks: [u8; TABLE_BYTES],
+    pub marks: [Mark; TABLE_BYTES],
     pub count: usize,
-    pub found: bool,
-    pub cells: [u8; MOVE_CELLS],
+    pub found: Sought,
+    pub cells: [MoveCell; MOVE_CELLS],
 }
 
 // Makes moves on the marks until none is legal, and writes each to the log.
-pub fn make_moves(n: usize, first: [u8; TABLE_BYTES], log: &mut [u8]) -> Moving
-    requires { ⌜ (1 ≤ n) × (n ≤ maxWires) × SoundMarks parities n first × (logCells ≤ length (now log)) ⌝ }
+pub fn make_moves(n: usize, first: [Mark; TABLE_BYTES], log: &mut [MoveCell]) -> Moving
+    requires { ⌜ Marked n first × (logCells ≤ length (now log)) ⌝ }
     ensures { λ r. ⌜ AllMade n first (now (log .entry)) (r .count) (r .marks) (now (log .exit)) ⌝ }
 {
     let mut s = before_moves(n, first);
-    while s.found {
+    while is_found(s.found) {
         let cells = s.cells;
         let k = s.count;
-        put_move(log, k, &cells);
+        put_parities(&cells, log, MOVE_CELLS * k);
         s = make_move(n, s);
     }
     s
 }
 
 // No move made yet.
-fn before_moves(n: usize, first: [u8; TABLE_BYTES]) -> Moving
-    requires { ⌜ (1 ≤ n) × (n ≤ maxWires) × SoundMarks parities n first ⌝ }
+fn before_moves(n: usize, first: [Mark; TABLE_BYTES]) -> Moving
+    requires { ⌜ Marked n first ⌝ }
     ensures { λ r. ⌜ (r .marks ≡ first) × (r .count ≡ 0) × NextMove n (r .marks) (r .found) (r .cells) ⌝ }
 {
     let next = next_move(n, first);
@@ -51,9 +52,9 @@ fn before_moves(n: usize, first: [u8; TABLE_BYTES]) -> Moving
     }
 }
 
-// The move that was found, carried out; and what the finder says then.
+// The move that was found, carried out; and what is found then.
 fn make_move(n: usize, s: Moving) -> Moving
-    requires { ⌜ (1 ≤ n) × (n ≤ maxWires) × SoundMarks parities n (s .marks) × NextMove n (s .marks) (s .found) (s .cells) × (s .found ≡ true) × (s .count < parities) ⌝ }
+    requires { ⌜ Movable n (s .marks) (s .found) (s .cells) (s .count) ⌝ }
     ensures { λ r. ⌜ Stepped n (s .marks) (s .cells) (s .count) (r .marks) (r .count) (r .found) (r .cells) ⌝ }
 {
     let marks = s.marks;

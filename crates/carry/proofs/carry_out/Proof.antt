@@ -1,100 +1,81 @@
 -- Each way out of `carry_out` by its law.
+use mathlib.Core.Path.{_∙_, _≡_, ap, sym}
+use Prim.Native.Nat.{ℕ}
 use native.Mathlib.Omega.{arith}
 use borrow.Author.Needs.{needs}
 use denote.Ref.{now}
-use Rattle.carry.proofs.Ways.{call-refused, carried-out, marks-long, move-form, move-refused}
+use Rattle.circuit.specs.TableFaults.{callFault, marksFault}
+use Rattle.carry.proofs.Deciding.{denied, granted}
+use Rattle.carry.proofs.Ways.{Called, call-clear, call-refused, may-carry, move-done, move-form, move-refused}
+use Rattle.carry.specs.Entry.{carryFault}
 use Rattle.carry.proofs.carry_out.Statement.{statement}
 use Rattle.carry.proofs.carry_out.Tie as tie
 
-carry-fault-requires : tie.Need-carry-fault-requires
-carry-fault-requires c κs = search needs
+-- the call, seen from where its fault is known
+abbrev entry : tie.After-marks-call-fault → tie.Start
+entry f = f .before .before .before .before .before
 
-same-length : tie.Need-same-length
-same-length c = search needs
+fault-is : (f : tie.After-marks-call-fault) → f .marks-call-fault .result ≡ carryFault (entry f .args .n) (now (entry f .args .marks))
+fault-is f =
+    let l : tie.After-lent-fault = search in
+    let a = entry f .args in
+    f .marks-call-fault .ensures ∙ ap (λ (lent : ℕ). callFault (a .n) lent (marksFault (a .n) (now (a .marks)))) (l .lent-fault .ensures)
 
 returns : tie.Need-returns
-returns c =
-    let start : tie.Start = search in
-    let f = c .before in
-    let a = start .args in
-    call-refused (a .n) (now (a .marks)) (now (a .cells)) (f .carry-fault .result) (f .carry-fault .ensures) (c .if1 .taken)
+returns c = call-refused (fault-is (search)) (search)
+
+called : (f : tie.After-marks-call-fault) → f .marks-call-fault .result ≡ 0 → Called (entry f .args .n) (now (entry f .args .marks))
+called f clear = call-clear _ _ .0 (sym (fault-is f) ∙ clear)
 
 is-move-requires : tie.Need-is-move-requires
-is-move-requires c κs =
-    let start : tie.Start = search in
-    let f = c .before .before in
-    let a = start .args in
-    marks-long (a .n) (now (a .marks)) (now (a .cells)) (f .carry-fault .result) (f .carry-fault .ensures) (omega arith)
-
-same-length-2 : tie.Need-same-length-2
-same-length-2 c = search needs
+is-move-requires c κs = called (search) (search) .sound .long
 
 returns-2 : tie.Need-returns-2
 returns-2 c =
-    let after-carry-fault : tie.After-carry-fault = search in
-    let start : tie.Start = search in
-    let m = c .before in
-    let f = after-carry-fault in
-    let a = start .args in
-    move-refused (a .n) (now (a .marks)) (now (a .cells)) (f .carry-fault .result) (f .carry-fault .ensures) (omega arith) (m .is-move .result) (m .is-move .ensures) (c .if2 .taken)
+    let m : tie.After-is-move = search in
+    move-refused (called (search) (search)) (denied (m .is-move .ensures) (search))
 
-shared-slice-read-carry : tie.Need-shared-slice-read-carry
-shared-slice-read-carry c =
-    let after-is-move : tie.After-is-move = search in
-    let after-carry-fault : tie.After-carry-fault = search in
-    let start : tie.Start = search in
-    let m = after-is-move in
-    let f = after-carry-fault in
-    let a = start .args in
-    omega (arith, move-form (a .n) (now (a .marks)) (now (a .cells)) (f .carry-fault .result) (f .carry-fault .ensures) (omega arith) (m .is-move .result) (m .is-move .ensures) (c .before .before .if2 .left) .long)
+cell-at-requires : tie.Need-cell-at-requires
+cell-at-requires c κs =
+    let m : tie.After-is-move = search in
+    omega (arith, move-form (granted (m .is-move .ensures) (search)) .long)
 
 set-of-requires : tie.Need-set-of-requires
 set-of-requires c κs =
-    let after-is-move : tie.After-is-move = search in
-    let after-carry-fault : tie.After-carry-fault = search in
-    let start : tie.Start = search in
-    let m = after-is-move in
-    let f = after-carry-fault in
-    let a = start .args in
-    move-form (a .n) (now (a .marks)) (now (a .cells)) (f .carry-fault .result) (f .carry-fault .ensures) (omega arith) (m .is-move .result) (m .is-move .ensures) (c .before .before .if2 .left)
+    let m : tie.After-is-move = search in
+    move-form (granted (m .is-move .ensures) (search))
 
 carry-requires : tie.Need-carry-requires
 carry-requires c κs =
-    let after-carry-fault : tie.After-carry-fault = search in
-    let start : tie.Start = search in
-    let f = after-carry-fault in
-    let a = start .args in
-    marks-long (a .n) (now (a .marks)) (now (a .cells)) (f .carry-fault .result) (f .carry-fault .ensures) (omega arith)
+    let y : tie.After-set-of = search in
+    let z : tie.After-cell-at = search in
+    let m : tie.After-is-move = search in
+    may-carry (granted (m .is-move .ensures) (search)) (called (search) (search) .sound .long) (z .cell-at .ensures) (y .set-of .ensures)
 
 same-length-3 : tie.Need-same-length-3
-same-length-3 c = c .before .before .carry .kept .0
+same-length-3 c = let d : tie.After-carry = search in d .carry .kept .0
 
 returns-3 : tie.Need-returns-3
 returns-3 c =
-    let after-set-of : tie.After-set-of = search in
-    let else2 : tie.Else2 = search in
-    let after-is-move : tie.After-is-move = search in
-    let after-carry-fault : tie.After-carry-fault = search in
-    let start : tie.Start = search in
-    let m = after-is-move in
-    let f = after-carry-fault in
-    let a = start .args in
-    let y = after-set-of .set-of in
-    carried-out (a .n) (now (a .marks)) (now (a .cells)) (f .carry-fault .result) (f .carry-fault .ensures) (omega arith) (m .is-move .result)
-    (m .is-move .ensures) (else2 .if2 .left)
-    (now (y .result)) (c .before .before .carry .last .0) (y .ensures) (c .before .before .carry .ensures)
+    let d : tie.After-carry = search in
+    let y : tie.After-set-of = search in
+    let z : tie.After-cell-at = search in
+    let m : tie.After-is-move = search in
+    let legal = granted (m .is-move .ensures) (search) in
+    move-done (called (search) (search)) legal (z .cell-at .ensures) (y .set-of .ensures) (d .carry .ensures)
 
 pub carry-out-spec : {M : Type 1} → statement M
 carry-out-spec =
     tie.close
     (tie.spec
-    carry-fault-requires
-    same-length
+    (λ c κs. search needs)
+    (λ c κs. search needs)
+    (λ c. search needs)
     returns
     is-move-requires
-    same-length-2
+    (λ c. search needs)
     returns-2
-    shared-slice-read-carry
+    cell-at-requires
     set-of-requires
     carry-requires
     same-length-3

@@ -10,56 +10,29 @@ use Rattle.moves.proofs.Logs.{move-short, move-whole}
 use Rattle.carry.proofs.move_at.Statement.{statement}
 use Rattle.carry.proofs.move_at.Tie as tie
 
-mul-result : tie.Need-mul-result
-mul-result c = search needs
-
-mul-result-2 : tie.Need-mul-result-2
-mul-result-2 c = search needs
-
-add-result : tie.Need-add-result
-add-result c = search needs
-
-sub-result : tie.Need-sub-result
-sub-result c = search needs
-
-part-result-start : tie.Need-part-result-start
-part-result-start c = search needs
-
-part-result-end : tie.Need-part-result-end
-part-result-end c = search needs
-
-sub-result-2 : tie.Need-sub-result-2
-sub-result-2 c = search needs
-
-part-result-start-2 : tie.Need-part-result-start-2
-part-result-start-2 c = search needs
-
-part-result-end-2 : tie.Need-part-result-end-2
-part-result-end-2 c = search needs
-
 returns : tie.Need-returns
 returns c =
-    let a = c .before .before .args in
-    let e : moveCells * a .k + moveCells - moveCells * a .k ≡ moveCells = omega arith in
-    ap (λ (x : ℕ). take x (drop (moveCells * a .k) (now (a .log)))) e ∙ sym (move-whole moveCells (now (a .log)) (a .k) (omega arith))
+    let p : tie.After-part = search in
+    let s : tie.Start = search in
+    let log = now (s .args .log) in
+    let from = moveCells * s .args .k in
+    let e : from + moveCells - from ≡ moveCells = omega arith in
+    p .part .ensures ∙ ap (λ (x : ℕ). take x (drop from log)) e ∙ sym (move-whole moveCells log (s .args .k) (omega arith))
 
 returns-2 : tie.Need-returns-2
 returns-2 c =
-    let a = c .before .before .args in
-    sym (move-short moveCells (now (a .log)) (a .k) (omega arith))
+    let p : tie.After-part2 = search in
+    let s : tie.Start = search in
+    p .part2 .ensures ∙ sym (move-short moveCells (now (s .args .log)) (s .args .k) (omega arith))
 
 pub move-at-spec : {M : Type 1} → statement M
 move-at-spec =
     tie.close
     (tie.spec
-    mul-result
-    mul-result-2
-    add-result
-    sub-result
-    part-result-start
-    part-result-end
-    sub-result-2
-    part-result-start-2
-    part-result-end-2
+    (λ c. search needs)
+    (λ c. search needs)
+    (λ c. search needs)
+    (λ c κs. search needs)
+    (λ c κs. search needs)
     returns
     returns-2)

@@ -2,83 +2,55 @@
 use native.Mathlib.Omega.{arith}
 use borrow.Author.Needs.{needs}
 use denote.Ref.{now}
-use Rattle.text.proofs.TextWays.{lent-refused, may-store, one-there, text-read, text-refused}
+use Rattle.text.proofs.TextWays.{Judged, lent-refused, may-store, one-there, text-read, text-refused}
 use Rattle.text.proofs.read_text.Statement.{statement}
 use Rattle.text.proofs.read_text.Tie as tie
 
+-- the text is judged; the entry, seen from there
+abbrev entry : tie.After-text-fault → tie.Start
+entry f = f .before .before .before .before
+
+judged : (f : tie.After-text-fault) → Judged (now (entry f .args .text)) (now (entry f .args .gates)) (f .text-fault .result)
+judged f = record { lent = omega arith; is = f .text-fault .ensures }
+
 returns : tie.Need-returns
 returns c =
-    let start : tie.Start = search in
-    let a = start .args in
-    lent-refused (now (a .text)) (now (a .gates)) (omega arith)
-
-text-fault-requires : tie.Need-text-fault-requires
-text-fault-requires c κs = search needs
-
-enum-known-found : tie.Need-enum-known-found
-enum-known-found c = search needs
+    let s : tie.Start = search in
+    lent-refused (now (s .args .text)) (now (s .args .gates)) (omega arith)
 
 returns-2 : tie.Need-returns-2
 returns-2 c =
-    let after-text-fault : tie.After-text-fault = search in
-    let start : tie.Start = search in
-    let f = after-text-fault in
-    let a = start .args in
-    let found = f .text-fault in
-    let given = c .before .found .given in
-    text-refused (now (a .text)) (now (a .gates)) (omega arith) (found .result) (found .ensures) (given .0 .0) (given .0 .1 .0) (given .1)
-
-enum-told : tie.Need-enum-told
-enum-told c = search needs
+    let k : tie.After-found = search in
+    text-refused (judged (search)) (k .found .given .1)
 
 byte-at-requires : tie.Need-byte-at-requires
 byte-at-requires c κs =
-    let start : tie.Start = search in
-    let f = c .before .before in
-    let a = start .args in
-    let found = f .text-fault in
-    one-there (now (a .text)) (now (a .gates)) (omega arith) (found .result) (found .ensures) (c .enum-told .given .1)
-
-cast-n : tie.Need-cast-n
-cast-n c = search needs
+    let k : tie.After-enum-told = search in
+    one-there (judged (search)) (k .enum-told .given .1)
 
 store-gates-requires : tie.Need-store-gates-requires
 store-gates-requires c κs =
-    let after-text-fault : tie.After-text-fault = search in
-    let start : tie.Start = search in
-    let f = after-text-fault in
-    let a = start .args in
-    let found = f .text-fault in
-    may-store (now (a .text)) (now (a .gates)) (omega arith) (found .result) (found .ensures) (c .before .before .enum-told .given .1)
-
-same-length : tie.Need-same-length
-same-length c = search needs
+    let k : tie.After-enum-told = search in
+    may-store (judged (search)) (k .enum-told .given .1)
 
 returns-3 : tie.Need-returns-3
 returns-3 c =
-    let after-byte-at : tie.After-byte-at = search in
-    let after-enum-told : tie.After-enum-told = search in
-    let after-text-fault : tie.After-text-fault = search in
-    let start : tie.Start = search in
-    let f = after-text-fault in
-    let a = start .args in
-    let found = f .text-fault in
-    let v = after-byte-at .byte-at in
-    let s = c .before .before .store-gates in
-    text-read (now (a .text)) (now (a .gates)) (omega arith) (found .result) (found .ensures)
-    (after-enum-told .enum-told .given .1) (v .result) (s .result) _ (v .ensures) (s .ensures)
+    let stored : tie.After-store-gates = search in
+    let n : tie.After-byte-at = search in
+    let k : tie.After-enum-told = search in
+    text-read (judged (search)) (k .enum-told .given .1) (n .byte-at .ensures) (stored .store-gates .ensures)
 
 pub read-text-spec : {M : Type 1} → statement M
 read-text-spec =
     tie.close
     (tie.spec
     returns
-    text-fault-requires
-    enum-known-found
+    (λ c κs. search needs)
+    (λ c. search needs)
     returns-2
-    enum-told
+    (λ c. search needs)
     byte-at-requires
-    cast-n
+    (λ c. search needs)
     store-gates-requires
-    same-length
+    (λ c. search needs)
     returns-3)

@@ -1,59 +1,49 @@
 -- Each step leaves what the next one needs, and `finish` puts them together.
 use mathlib.Core.Path.{refl}
 use borrow.Author.Needs.{needs}
-use Rattle.trimmer.proofs.Finish.{finish, sound-first, sound-last, sound-new, sound-rows, sound-weights}
+use denote.Ref.{now}
+use Rattle.trimmer.proofs.Finish.{MarkedC, MovedC, ReadC, WeighedC, finish, marked-first, marked-last, sound-weights, writable}
 use Rattle.trimmer.proofs.trim_accepted.Statement.{statement}
 use Rattle.trimmer.proofs.trim_accepted.Tie as tie
 
-read-gates-requires : tie.Need-read-gates-requires
-read-gates-requires c κs = search needs
+-- the places where C is read, its odd set marked, the moves made, the new weights found; the entry and each other, seen from there
+abbrev entry : tie.After-read-gates → tie.Start
+entry t = search
 
-odd-marks-requires : tie.Need-odd-marks-requires
-odd-marks-requires c κs = search needs
+is-read : (t : tie.After-read-gates) →
+    ReadC (entry t .args .n) (now (entry t .args .gates)) (now (entry t .args .out)) (now (entry t .args .log))
+    (t .read-gates .result .weights) (t .read-gates .result .rows)
+is-read t = record { trimmable = entry t .pre; reads = t .read-gates .ensures }
+
+read-gates-requires : tie.Need-read-gates-requires
+read-gates-requires c κs = let s : tie.Start = search in (s .pre .accepted .few, s .pre .accepted .formed)
 
 make-moves-requires : tie.Need-make-moves-requires
 make-moves-requires c κs =
     let o : tie.After-odd-marks = search in
-    let t : tie.After-read-gates = search in
     let s : tie.Start = search in
-    let f = sound-first _ _ (s .pre .0) _ _ (t .read-gates .ensures) _ (o .odd-marks .ensures) in
-    search needs
+    (marked-first (record { read = is-read (search); odd = o .odd-marks .ensures }), s .pre .log-room)
 
 weights-for-requires : tie.Need-weights-for-requires
 weights-for-requires c κs =
     let m : tie.After-make-moves = search in
     let o : tie.After-odd-marks = search in
     let t : tie.After-read-gates = search in
-    let s : tie.Start = search in
-    let w = sound-weights _ _ (s .pre .0) _ _ (t .read-gates .ensures) in
-    let l = sound-last _ _ (s .pre .0) _ _ (t .read-gates .ensures) _ (o .odd-marks .ensures) _ _ _ _ (m .make-moves .ensures) in
-    search needs
+    (
+      sound-weights (is-read t),
+      marked-last (record { marked = record { read = is-read t; odd = o .odd-marks .ensures }; all = m .make-moves .ensures }),
+    )
 
 write-list-requires : tie.Need-write-list-requires
 write-list-requires c κs =
     let v : tie.After-weights-for = search in
     let m : tie.After-make-moves = search in
     let o : tie.After-odd-marks = search in
-    let t : tie.After-read-gates = search in
-    let s : tie.Start = search in
-    let w = sound-new _ _ (s .pre .0) _ _ (t .read-gates .ensures) _ (o .odd-marks .ensures) _ _ _ _ (m .make-moves .ensures) _ (v .weights-for .ensures) in
-    let r = sound-rows _ _ (s .pre .0) _ _ (t .read-gates .ensures) in
-    search needs
-
-t-gates-requires : tie.Need-t-gates-requires
-t-gates-requires c κs = search needs
-
-members-of-requires : tie.Need-members-of-requires
-members-of-requires c κs = search needs
-
-members-of-requires-2 : tie.Need-members-of-requires-2
-members-of-requires-2 c κs = search needs
-
-same-length : tie.Need-same-length
-same-length c = search needs
-
-same-length-2 : tie.Need-same-length-2
-same-length-2 c = search needs
+    writable
+    (record {
+      moved = record { marked = record { read = is-read (search); odd = o .odd-marks .ensures }; all = m .make-moves .ensures };
+      new-is = v .weights-for .ensures;
+    })
 
 returns : tie.Need-returns
 returns c =
@@ -64,23 +54,25 @@ returns c =
     let v : tie.After-weights-for = search in
     let m : tie.After-make-moves = search in
     let o : tie.After-odd-marks = search in
-    let t : tie.After-read-gates = search in
-    let s : tie.Start = search in
-    finish _ _ (s .pre .0) _ _ (t .read-gates .ensures) _ (o .odd-marks .ensures) _ _ _ _ (m .make-moves .ensures) _ (v .weights-for .ensures) _ _ _ (d .write-list .ensures) _
-    (g .t-gates .ensures) (first .members-of .ensures) (last .members-of2 .ensures) refl refl
+    finish
+    (record {
+      moved = record { marked = record { read = is-read (search); odd = o .odd-marks .ensures }; all = m .make-moves .ensures };
+      new-is = v .weights-for .ensures;
+    })
+    (d .write-list .ensures) _ (g .t-gates .ensures) (first .members-of .ensures) (last .members-of2 .ensures) refl refl
 
 pub trim-accepted-spec : {M : Type 1} → statement M
 trim-accepted-spec =
     tie.close
     (tie.spec
     read-gates-requires
-    odd-marks-requires
+    (λ c κs. search needs)
     make-moves-requires
     weights-for-requires
     write-list-requires
-    t-gates-requires
-    members-of-requires
-    members-of-requires-2
-    same-length
-    same-length-2
+    (λ c κs. search needs)
+    (λ c κs. search needs)
+    (λ c κs. search needs)
+    (λ c. search needs)
+    (λ c. search needs)
     returns)

@@ -1,47 +1,37 @@
 -- None of those passed is b.
 use mathlib.Core.Path.{_≡_}
-use Prim.Native.Nat.{_-_, _<_, ℕ, _≤_}
+use Prim.Native.Nat.{_-_, _≤_}
 use native.Mathlib.Omega.{arith}
-use lib.ListN.{getD, length}
-use borrow.Author.Count.{below-more}
+use lib.ListN.{length}
 use borrow.Author.Needs.{needs}
-use denote.Ref.{now}
-use Rattle.carry.proofs.Deciding.{answer-no, answer-yes}
+use Rattle.carry.proofs.Deciding.{Passed, answer-no, answer-yes, passed-more, passed-none}
 use Rattle.carry.proofs.legality.contains.Statement.{statement}
 use Rattle.carry.proofs.legality.contains.Tie as tie
 
 abbrev Inv-loop : tie.InvT-loop
-Inv-loop ys b i₀ i = (i ≤ length ys) × ((j : ℕ) → j < i → getD ys j 0 ≡ b → ⊥)
+Inv-loop ys b i₀ i = (i ≤ length ys) × Passed (λ y. y ≡ b → ⊥) ys i
 
 abbrev μ-loop : tie.MeasureT-loop
 μ-loop ys b i₀ i = length ys - i
 
 loop-holds : tie.Need-loop-holds Inv-loop μ-loop
-loop-holds c = (search needs, λ j l. absurd (omega arith))
-
-shared-slice-read-if1 : tie.Need-shared-slice-read-if1 Inv-loop μ-loop
-shared-slice-read-if1 c = search needs
+loop-holds c = (search needs, passed-none)
 
 returns : tie.Need-returns Inv-loop μ-loop
 returns c =
-    let at-loop : tie.At-loop Inv-loop μ-loop = search in
-    answer-yes (at-loop .loop .i, c .before .before .loop-test .taken, c .if1 .taken)
-
-add-i : tie.Need-add-i Inv-loop μ-loop
-add-i c = search needs
-
-loop-less : tie.Need-loop-less Inv-loop μ-loop
-loop-less c = search needs
+    let at : tie.At-loop Inv-loop μ-loop = search in
+    answer-yes (at .loop .i, omega arith, omega arith)
 
 loop-again : tie.Need-loop-again Inv-loop μ-loop
 loop-again c =
-    let at-loop : tie.At-loop Inv-loop μ-loop = search in
-    let start : tie.Start Inv-loop μ-loop = search in
-    let a = start .args in
-    (search needs, below-more (λ (j : ℕ). getD (now (a .ys)) j 0 ≡ a .b → ⊥) (at-loop .loop .i) (at-loop .loop .inv .1) (c .if1 .left))
+    let y : tie.After-cell-at Inv-loop μ-loop = search in
+    let at : tie.At-loop Inv-loop μ-loop = search in
+    (search needs, passed-more (at .loop .inv .1) (y .cell-at .ensures) (search))
 
 returns-2 : tie.Need-returns-2 Inv-loop μ-loop
-returns-2 c = answer-no (λ t. c .before .loop .inv .1 (t .0) (omega (arith, t .1)) (t .2))
+returns-2 c =
+    let at : tie.At-loop Inv-loop μ-loop = search in
+    answer-no (λ t. at .loop .inv .1 .each (t .0) (omega (arith, t .1)) (t .2))
 
 pub contains-spec : {M : Type 1} → statement M
 contains-spec =
@@ -50,9 +40,9 @@ contains-spec =
     Inv-loop
     μ-loop
     loop-holds
-    shared-slice-read-if1
+    (λ c κs. search needs)
     returns
-    add-i
-    loop-less
+    (λ c. search needs)
+    (λ c. search needs)
     loop-again
     returns-2)

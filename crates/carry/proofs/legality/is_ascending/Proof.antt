@@ -18,39 +18,24 @@ abbrev μ-loop : tie.MeasureT-loop
 loop-holds : tie.Need-loop-holds Inv-loop μ-loop
 loop-holds c = (search needs, λ j l. absurd (omega arith))
 
-add-loop : tie.Need-add-loop Inv-loop μ-loop
-add-loop c = search needs
-
-shared-slice-read-if1 : tie.Need-shared-slice-read-if1 Inv-loop μ-loop
-shared-slice-read-if1 c = search needs
-
-add-if1 : tie.Need-add-if1 Inv-loop μ-loop
-add-if1 c = search needs
-
-shared-slice-read-if1-2 : tie.Need-shared-slice-read-if1-2 Inv-loop μ-loop
-shared-slice-read-if1-2 c = search needs
-
 returns : tie.Need-returns Inv-loop μ-loop
 returns c =
-    let at-loop : tie.At-loop Inv-loop μ-loop = search in
-    let start : tie.Start Inv-loop μ-loop = search in
-    answer-no (not-ascending (now (start .args .ys)) (at-loop .loop .i) (omega arith) (omega arith))
-
-add-i : tie.Need-add-i Inv-loop μ-loop
-add-i c = search needs
-
-loop-less : tie.Need-loop-less Inv-loop μ-loop
-loop-less c = search needs
+    let at : tie.At-loop Inv-loop μ-loop = search in
+    let s : tie.Start Inv-loop μ-loop = search in
+    answer-no (not-ascending (now (s .args .ys)) (at .loop .i) (omega arith) (omega arith))
 
 loop-again : tie.Need-loop-again Inv-loop μ-loop
 loop-again c =
-    let at-loop : tie.At-loop Inv-loop μ-loop = search in
-    let start : tie.Start Inv-loop μ-loop = search in
-    let ys = now (start .args .ys) in
-    (search needs, below-more (λ (j : ℕ). getD ys j 0 < getD ys (j + 1) 0) (at-loop .loop .i) (at-loop .loop .inv .1) (omega arith))
+    let at : tie.At-loop Inv-loop μ-loop = search in
+    let s : tie.Start Inv-loop μ-loop = search in
+    let ys = now (s .args .ys) in
+    (search needs, below-more (λ (j : ℕ). getD ys j 0 < getD ys (j + 1) 0) (at .loop .i) (at .loop .inv .1) (omega arith))
 
 returns-2 : tie.Need-returns-2 Inv-loop μ-loop
-returns-2 c = answer-yes (ascending-all (now (c .before .before .args .ys)) (c .before .loop .i) (omega arith) (c .before .loop .inv .1))
+returns-2 c =
+    let at : tie.At-loop Inv-loop μ-loop = search in
+    let s : tie.Start Inv-loop μ-loop = search in
+    answer-yes (ascending-all (now (s .args .ys)) (at .loop .i) (omega arith) (at .loop .inv .1))
 
 pub is-ascending-spec : {M : Type 1} → statement M
 is-ascending-spec =
@@ -59,12 +44,12 @@ is-ascending-spec =
     Inv-loop
     μ-loop
     loop-holds
-    add-loop
-    shared-slice-read-if1
-    add-if1
-    shared-slice-read-if1-2
+    (λ c. search needs)
+    (λ c κs. search needs)
+    (λ c. search needs)
+    (λ c κs. search needs)
     returns
-    add-i
-    loop-less
+    (λ c. search needs)
+    (λ c. search needs)
     loop-again
     returns-2)

@@ -1,75 +1,45 @@
 -- The xor of the columns passed, and of those to come, is that of all.
-use mathlib.Core.List.{map}
-use mathlib.Core.Path.{refl}
 use Prim.Native.Nat.{_-_, _≤_}
 use native.Mathlib.Omega.{arith}
 use lib.ListN.{length}
 use borrow.Author.Needs.{needs}
-use denote.Ref.{now}
 use Rattle.circuit.specs.Limits.{maxWires}
-use Rattle.gf2.specs.Over.{xorAll}
 use Rattle.moves.specs.Kappa.{kappa}
-use Rattle.carry.proofs.Columns.{XorTo, balanced-by-xor, wire-lt, xor-end, xor-next}
+use Rattle.carry.proofs.Columns.{XorTo, balanced-by-xor, xor-end, xor-next, xor-none}
 use Rattle.carry.proofs.legality.is_balanced.Statement.{statement}
 use Rattle.carry.proofs.legality.is_balanced.Tie as tie
 
 abbrev Inv-loop : tie.InvT-loop
-Inv-loop z ys table t sum₀ i₀ sum i = (i ≤ length ys) × XorTo (kappa maxWires z t) ys i sum (xorAll (map (kappa maxWires z t) ys))
+Inv-loop z ys table t sum₀ i₀ sum i = (i ≤ length ys) × XorTo (kappa maxWires z t) ys i sum
 
 abbrev μ-loop : tie.MeasureT-loop
 μ-loop z ys table t sum₀ i₀ sum i = length ys - i
 
-products-requires : tie.Need-products-requires Inv-loop μ-loop
-products-requires c κs = search needs
-
-lowest-requires : tie.Need-lowest-requires Inv-loop μ-loop
-lowest-requires c κs = search needs
-
 loop-holds : tie.Need-loop-holds Inv-loop μ-loop
-loop-holds c = (search needs, refl)
-
-shared-slice-read-column : tie.Need-shared-slice-read-column Inv-loop μ-loop
-shared-slice-read-column c = search needs
+loop-holds c = (search needs, xor-none)
 
 column-requires : tie.Need-column-requires Inv-loop μ-loop
 column-requires c κs =
-    let after-lowest : tie.After-lowest Inv-loop μ-loop = search in
-    let after-products : tie.After-products Inv-loop μ-loop = search in
-    let start : tie.Start Inv-loop μ-loop = search in
-    let s = start in
-    let l = after-lowest .lowest in
-    (after-products .products .ensures, wire-lt maxWires (s .args .z) (l .result) (l .ensures .0) (s .pre) (omega arith))
-
-add-i : tie.Need-add-i Inv-loop μ-loop
-add-i c = search needs
-
-loop-less : tie.Need-loop-less Inv-loop μ-loop
-loop-less c = search needs
+    let y : tie.After-cell-at Inv-loop μ-loop = search in
+    let at : tie.At-loop Inv-loop μ-loop = search in
+    let l : tie.After-lowest Inv-loop μ-loop = search in
+    let p : tie.After-products Inv-loop μ-loop = search in
+    let s : tie.Start Inv-loop μ-loop = search in
+    (p .products .ensures, (l .lowest .ensures .1, s .pre .1, omega (arith, s .pre .2 (at .loop .i) (omega arith))))
 
 loop-again : tie.Need-loop-again Inv-loop μ-loop
 loop-again c =
-    let in-loop : tie.In-loop Inv-loop μ-loop = search in
-    let at-loop : tie.At-loop Inv-loop μ-loop = search in
-    let after-lowest : tie.After-lowest Inv-loop μ-loop = search in
-    let start : tie.Start Inv-loop μ-loop = search in
-    let a = start .args in
-    let at = at-loop .loop in
-    let f = kappa maxWires (a .z) (after-lowest .lowest .result) in (
-      search needs,
-      xor-next f (now (a .ys)) (at .i) (at .sum) (c .column .result) (xorAll (map f (now (a .ys)))) (in-loop .loop-test .taken) (c .column .ensures .0) (at .inv .1),
-    )
+    let x : tie.After-column Inv-loop μ-loop = search in
+    let y : tie.After-cell-at Inv-loop μ-loop = search in
+    let at : tie.At-loop Inv-loop μ-loop = search in
+    (search needs, xor-next (at .loop .inv .1) (omega arith) (y .cell-at .ensures) (x .column .ensures .0))
 
 returns : tie.Need-returns Inv-loop μ-loop
 returns c =
-    let after-shared-slice-known : tie.After-shared-slice-known Inv-loop μ-loop = search in
-    let start : tie.Start Inv-loop μ-loop = search in
-    let s = start in
-    let at = c .before .loop in
-    let ys = now (s .args .ys) in
-    let l = c .before .before .lowest in
-    let f = kappa maxWires (s .args .z) (l .result) in
-    balanced-by-xor maxWires (s .args .z) (l .result) (l .ensures .0) (s .pre) (omega arith) ys (at .sum)
-    (λ i h. omega (arith, after-shared-slice-known .shared-slice-known .given i)) (xor-end f ys (at .i) (at .sum) (xorAll (map f ys)) (omega arith) (at .inv .1))
+    let at : tie.At-loop Inv-loop μ-loop = search in
+    let l : tie.After-lowest Inv-loop μ-loop = search in
+    let s : tie.Start Inv-loop μ-loop = search in
+    balanced-by-xor {N = maxWires} (s .pre .0) (s .pre .1) (l .lowest .ensures .0) (s .pre .2) (xor-end (at .loop .inv .1) (omega arith))
 
 pub is-balanced-spec : {M : Type 1} → statement M
 is-balanced-spec =
@@ -77,12 +47,12 @@ is-balanced-spec =
     (tie.spec
     Inv-loop
     μ-loop
-    products-requires
-    lowest-requires
+    (λ c κs. search needs)
+    (λ c κs. search needs)
     loop-holds
-    shared-slice-read-column
+    (λ c κs. search needs)
     column-requires
-    add-i
-    loop-less
+    (λ c. search needs)
+    (λ c. search needs)
     loop-again
     returns)

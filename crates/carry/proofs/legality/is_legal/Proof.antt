@@ -1,59 +1,65 @@
--- The conditions one by one; that z separates is what lets it have a wire.
+-- The conditions one by one; that z separates members is what lets it have a wire, and be a parity.
 use borrow.Author.Needs.{needs}
 use denote.Ref.{now}
-use Rattle.circuit.specs.Limits.{maxMembers, maxWires}
-use Rattle.carry.proofs.Conditions.{legal-if-balanced, separates-some}
-use Rattle.carry.proofs.Deciding.{answer-no, denied, granted}
+use Rattle.circuit.specs.Limits.{maxWires}
+use Rattle.carry.proofs.Conditions.{members-below, separates-below, separates-some}
+use Rattle.carry.proofs.Deciding.{answer-no, decides-as, denied, granted}
 use Rattle.carry.proofs.legality.is_legal.Statement.{statement}
 use Rattle.carry.proofs.legality.is_legal.Tie as tie
 
-is-ascending-requires : tie.Need-is-ascending-requires
-is-ascending-requires c κs = search needs
-
 returns : tie.Need-returns
-returns c = answer-no (λ g. denied (c .before .is-ascending .result) (c .before .is-ascending .ensures) (c .if1 .taken) (g .ordered))
-
-are-members-requires : tie.Need-are-members-requires
-are-members-requires c κs = search needs
+returns c =
+    let a : tie.After-is-ascending = search in
+    answer-no (λ g. denied (a .is-ascending .ensures) (search) (g .ordered))
 
 returns-2 : tie.Need-returns-2
-returns-2 c = answer-no (λ g. denied (c .before .are-members .result) (c .before .are-members .ensures) (c .if2 .taken) (g .marked))
-
-separates-requires : tie.Need-separates-requires
-separates-requires c κs = search needs
+returns-2 c =
+    let m : tie.After-are-members = search in
+    answer-no (λ g. denied (m .are-members .ensures) (search) (g .marked))
 
 returns-3 : tie.Need-returns-3
-returns-3 c = answer-no (λ g. denied (c .before .separates .result) (c .before .separates .ensures) (c .if3 .taken) (g .separates))
+returns-3 c =
+    let p : tie.After-separates = search in
+    answer-no (λ g. denied (p .separates .ensures) (search) (g .separates))
 
 is-balanced-requires : tie.Need-is-balanced-requires
 is-balanced-requires c κs =
-    let start : tie.Start = search in
-    let a = start .args in
-    separates-some (now (a .marks)) (a .z) (now (a .ys)) (granted (c .before .separates .result) (c .before .separates .ensures) (c .if3 .left))
+    let p : tie.After-separates = search in
+    let m : tie.After-are-members = search in
+    let s : tie.Start = search in
+    let sep = granted (p .separates .ensures) (search) in
+    let marked = granted (m .are-members .ensures) (search) in
+    let marks = now (s .args .marks) in
+    let ys = now (s .args .ys) in
+    (separates-some sep, separates-below maxWires marks ys (s .pre .0) marked sep, members-below maxWires marks ys (s .pre .0) marked)
 
 returns-4 : tie.Need-returns-4
 returns-4 c =
-    let else2 : tie.Else2 = search in
-    let after-are-members : tie.After-are-members = search in
-    let else1 : tie.Else1 = search in
-    let after-is-ascending : tie.After-is-ascending = search in
-    let start : tie.Start = search in
-    let a = start .args in
-    legal-if-balanced maxMembers maxWires (now (a .marks)) (a .z) (now (a .ys)) (c .is-balanced .result) (start .pre .1)
-    (granted (after-is-ascending .is-ascending .result) (after-is-ascending .is-ascending .ensures) (else1 .if1 .left))
-    (granted (after-are-members .are-members .result) (after-are-members .are-members .ensures) (else2 .if2 .left))
-    (granted (c .before .before .separates .result) (c .before .before .separates .ensures) (c .before .if3 .left))
-    (c .is-balanced .ensures)
+    let b : tie.After-is-balanced = search in
+    let p : tie.After-separates = search in
+    let m : tie.After-are-members = search in
+    let a : tie.After-is-ascending = search in
+    let s : tie.Start = search in
+    decides-as
+    (λ balanced.
+    record {
+      few = s .pre .1;
+      ordered = granted (a .is-ascending .ensures) (search);
+      marked = granted (m .are-members .ensures) (search);
+      separates = granted (p .separates .ensures) (search);
+      balanced = balanced;
+    })
+    (λ g. g .balanced) (b .is-balanced .ensures)
 
 pub is-legal-spec : {M : Type 1} → statement M
 is-legal-spec =
     tie.close
     (tie.spec
-    is-ascending-requires
+    (λ c κs. search needs)
     returns
-    are-members-requires
+    (λ c κs. search needs)
     returns-2
-    separates-requires
+    (λ c κs. search needs)
     returns-3
     is-balanced-requires
     returns-4)

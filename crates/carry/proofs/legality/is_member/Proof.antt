@@ -1,18 +1,22 @@
--- One look at the mark of p.
+-- One look at the mark of p, if it has one.
+use native.Mathlib.Omega.{arith}
 use lib.ListN.{getD}
 use borrow.Author.Needs.{needs}
 use denote.Ref.{now}
-use Rattle.carry.proofs.Deciding.{decides-equal}
+use Rattle.carry.proofs.Conditions.{member-inside}
+use Rattle.carry.proofs.Deciding.{answer-no, decides-equal}
 use Rattle.carry.proofs.legality.is_member.Statement.{statement}
 use Rattle.carry.proofs.legality.is_member.Tie as tie
 
-shared-slice-read-result : tie.Need-shared-slice-read-result
-shared-slice-read-result c = search needs
-
 returns : tie.Need-returns
 returns c =
-    let a = c .before .args in
-    decides-equal (getD (now (a .marks)) (a .p) 0) 1
+    let s : tie.Start = search in
+    answer-no (λ m. omega (arith, member-inside (now (s .args .marks)) (s .args .p) m))
+
+returns-2 : tie.Need-returns-2
+returns-2 c =
+    let s : tie.Start = search in
+    decides-equal (getD (now (s .args .marks)) (s .args .p) 0) 1
 
 pub is-member-spec : {M : Type 1} → statement M
-is-member-spec = tie.close (tie.spec shared-slice-read-result returns)
+is-member-spec = tie.close (tie.spec returns (λ c. search needs) returns-2)

@@ -8,45 +8,37 @@ use Rattle.carry.proofs.Deciding.{answer-no, denied, granted}
 use Rattle.carry.proofs.legality.is_move.Statement.{statement}
 use Rattle.carry.proofs.legality.is_move.Tie as tie
 
-has-form-requires : tie.Need-has-form-requires
-has-form-requires c κs = search needs
-
 returns : tie.Need-returns
 returns c =
-    let start : tie.Start = search in
-    let a = start .args in
-    answer-no (λ g. denied (c .before .has-form .result) (c .before .has-form .ensures) (c .if1 .taken) (legal-said maxMembers maxWires (now (a .marks)) (now (a .cells)) g .0))
+    let f : tie.After-has-form = search in
+    let s : tie.Start = search in
+    let said = legal-said maxMembers maxWires (now (s .args .marks)) (now (s .args .cells)) in
+    answer-no (λ g. denied (f .has-form .ensures) (search) (said g .0))
 
-shared-slice-read-is-legal : tie.Need-shared-slice-read-is-legal
-shared-slice-read-is-legal c =
-    let f = (granted (c .before .before .has-form .result) (c .before .before .has-form .ensures) (c .before .if1 .left)) in
-    omega (arith, f .long)
+cell-at-requires : tie.Need-cell-at-requires
+cell-at-requires c κs =
+    let f : tie.After-has-form = search in
+    omega (arith, granted (f .has-form .ensures) (search) .long)
 
 set-of-requires : tie.Need-set-of-requires
-set-of-requires c κs = granted (c .before .before .has-form .result) (c .before .before .has-form .ensures) (c .before .if1 .left)
+set-of-requires c κs =
+    let f : tie.After-has-form = search in
+    granted (f .has-form .ensures) (search)
 
 is-legal-requires : tie.Need-is-legal-requires
 is-legal-requires c κs =
-    let after-has-form : tie.After-has-form = search in
-    let start : tie.Start = search in
-    (start .pre, rw (c .set-of .ensures) (set-few maxMembers (now (start .args .cells)) (granted (after-has-form .has-form .result) (after-has-form .has-form .ensures) (c .before .before .if1 .left))))
+    let y : tie.After-set-of = search in
+    let f : tie.After-has-form = search in
+    let s : tie.Start = search in
+    (s .pre, rw (y .set-of .ensures) (set-few (granted (f .has-form .ensures) (search))))
 
 returns-2 : tie.Need-returns-2
 returns-2 c =
-    let else1 : tie.Else1 = search in
-    let after-has-form : tie.After-has-form = search in
-    let start : tie.Start = search in
-    let a = start .args in
-    move-if-legal maxMembers maxWires (now (a .marks)) (now (a .cells)) (now (c .before .set-of .result)) (c .is-legal .result)
-    (granted (after-has-form .has-form .result) (after-has-form .has-form .ensures) (else1 .if1 .left)) (c .before .set-of .ensures) (c .is-legal .ensures)
+    let l : tie.After-is-legal = search in
+    let y : tie.After-set-of = search in
+    let z : tie.After-cell-at = search in
+    let f : tie.After-has-form = search in
+    move-if-legal (granted (f .has-form .ensures) (search)) (z .cell-at .ensures) (y .set-of .ensures) (l .is-legal .ensures)
 
 pub is-move-spec : {M : Type 1} → statement M
-is-move-spec =
-    tie.close
-    (tie.spec
-    has-form-requires
-    returns
-    shared-slice-read-is-legal
-    set-of-requires
-    is-legal-requires
-    returns-2)
+is-move-spec = tie.close (tie.spec (λ c κs. search needs) returns cell-at-requires set-of-requires is-legal-requires returns-2)

@@ -1,58 +1,41 @@
 -- For none of those passed is a xor z a member outside.
-use Prim.Native.Nat.{_-_, _<_, ℕ, _≤_}
+use Prim.Native.Nat.{_-_, _≤_}
 use native.Mathlib.Omega.{arith}
 use lib.Bits.{bitXor}
-use lib.ListN.{getD, length}
-use borrow.Author.Count.{below-more}
+use lib.ListN.{length}
 use borrow.Author.Needs.{needs}
-use denote.Ref.{now}
-use Rattle.carry.proofs.Deciding.{answer-no, answer-yes, separates-found, separates-none}
+use Rattle.carry.proofs.Deciding.{Passed, answer-no, answer-yes, passed-more, passed-none, separates-found, separates-none}
 use Rattle.carry.specs.Decides.{Outside}
 use Rattle.carry.proofs.legality.separates.Statement.{statement}
 use Rattle.carry.proofs.legality.separates.Tie as tie
 
 abbrev Inv-loop : tie.InvT-loop
-Inv-loop marks z ys i₀ i = (i ≤ length ys) × ((j : ℕ) → j < i → Outside marks ys (bitXor (getD ys j 0) z) → ⊥)
+Inv-loop marks z ys i₀ i = (i ≤ length ys) × Passed (λ y. Outside marks ys (bitXor y z) → ⊥) ys i
 
 abbrev μ-loop : tie.MeasureT-loop
 μ-loop marks z ys i₀ i = length ys - i
 
 loop-holds : tie.Need-loop-holds Inv-loop μ-loop
-loop-holds c = (search needs, λ j l. absurd (omega arith))
-
-shared-slice-read-is-outside : tie.Need-shared-slice-read-is-outside Inv-loop μ-loop
-shared-slice-read-is-outside c = search needs
-
-is-outside-requires : tie.Need-is-outside-requires Inv-loop μ-loop
-is-outside-requires c κs = search needs
+loop-holds c = (search needs, passed-none)
 
 returns : tie.Need-returns Inv-loop μ-loop
 returns c =
-    let in-loop : tie.In-loop Inv-loop μ-loop = search in
-    let at-loop : tie.At-loop Inv-loop μ-loop = search in
-    let start : tie.Start Inv-loop μ-loop = search in
-    let a = start .args in
-    answer-yes (separates-found (now (a .marks)) (a .z) (now (a .ys)) (at-loop .loop .i) (in-loop .loop-test .taken) (c .before .is-outside .ensures .0 (c .if1 .taken)))
-
-add-i : tie.Need-add-i Inv-loop μ-loop
-add-i c = search needs
-
-loop-less : tie.Need-loop-less Inv-loop μ-loop
-loop-less c = search needs
+    let o : tie.After-is-outside Inv-loop μ-loop = search in
+    let y : tie.After-cell-at Inv-loop μ-loop = search in
+    let at : tie.At-loop Inv-loop μ-loop = search in
+    answer-yes (separates-found {i = at .loop .i} (omega arith) (y .cell-at .ensures) (o .is-outside .ensures .0 (search)))
 
 loop-again : tie.Need-loop-again Inv-loop μ-loop
 loop-again c =
-    let at-loop : tie.At-loop Inv-loop μ-loop = search in
-    let start : tie.Start Inv-loop μ-loop = search in
-    let a = start .args in
-    let at = at-loop .loop in
-    (search needs, below-more (λ (j : ℕ). Outside (now (a .marks)) (now (a .ys)) (bitXor (getD (now (a .ys)) j 0) (a .z)) → ⊥) (at .i) (at .inv .1) (c .before .is-outside .ensures .1 (c .if1 .left)))
+    let o : tie.After-is-outside Inv-loop μ-loop = search in
+    let y : tie.After-cell-at Inv-loop μ-loop = search in
+    let at : tie.At-loop Inv-loop μ-loop = search in
+    (search needs, passed-more (at .loop .inv .1) (y .cell-at .ensures) (o .is-outside .ensures .1 (search)))
 
 returns-2 : tie.Need-returns-2 Inv-loop μ-loop
 returns-2 c =
-    let start : tie.Start Inv-loop μ-loop = search in
-    let a = start .args in
-    answer-no (separates-none (now (a .marks)) (a .z) (now (a .ys)) (c .before .loop .i) (omega arith) (c .before .loop .inv .1))
+    let at : tie.At-loop Inv-loop μ-loop = search in
+    answer-no (separates-none {i = at .loop .i} (omega arith) (at .loop .inv .1))
 
 pub separates-spec : {M : Type 1} → statement M
 separates-spec =
@@ -61,10 +44,10 @@ separates-spec =
     Inv-loop
     μ-loop
     loop-holds
-    shared-slice-read-is-outside
-    is-outside-requires
+    (λ c κs. search needs)
+    (λ c κs. search needs)
     returns
-    add-i
-    loop-less
+    (λ c. search needs)
+    (λ c. search needs)
     loop-again
     returns-2)

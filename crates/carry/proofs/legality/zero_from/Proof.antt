@@ -19,29 +19,22 @@ abbrev μ-loop : tie.MeasureT-loop
 loop-holds : tie.Need-loop-holds Inv-loop μ-loop
 loop-holds c = (search needs, λ j l g. absurd (omega arith))
 
-shared-slice-read-if1 : tie.Need-shared-slice-read-if1 Inv-loop μ-loop
-shared-slice-read-if1 c = search needs
-
 returns : tie.Need-returns Inv-loop μ-loop
 returns c =
-    let at-loop : tie.At-loop Inv-loop μ-loop = search in
-    answer-no (λ all. c .if1 .taken (all (at-loop .loop .i) (at-loop .loop .inv .0) (c .before .before .loop-test .taken)))
-
-add-i : tie.Need-add-i Inv-loop μ-loop
-add-i c = search needs
-
-loop-less : tie.Need-loop-less Inv-loop μ-loop
-loop-less c = search needs
+    let at : tie.At-loop Inv-loop μ-loop = search in
+    answer-no (λ all. omega (arith, all (at .loop .i) (omega arith) (omega arith)))
 
 loop-again : tie.Need-loop-again Inv-loop μ-loop
 loop-again c =
-    let at-loop : tie.At-loop Inv-loop μ-loop = search in
-    let start : tie.Start Inv-loop μ-loop = search in
-    let a = start .args in
-    (search needs, below-more (λ (j : ℕ). a .from ≤ j → getD (now (a .cells)) j 0 ≡ 0) (at-loop .loop .i) (at-loop .loop .inv .1) (λ g. omega arith))
+    let at : tie.At-loop Inv-loop μ-loop = search in
+    let s : tie.Start Inv-loop μ-loop = search in
+    let a = s .args in
+    (search needs, below-more (λ (j : ℕ). a .from ≤ j → getD (now (a .cells)) j 0 ≡ 0) (at .loop .i) (at .loop .inv .1) (λ g. omega arith))
 
 returns-2 : tie.Need-returns-2 Inv-loop μ-loop
-returns-2 c = answer-yes (λ j g l. c .before .loop .inv .1 j (omega arith) g)
+returns-2 c =
+    let at : tie.At-loop Inv-loop μ-loop = search in
+    answer-yes (λ j g l. at .loop .inv .1 j (omega arith) g)
 
 pub zero-from-spec : {M : Type 1} → statement M
 zero-from-spec =
@@ -50,9 +43,9 @@ zero-from-spec =
     Inv-loop
     μ-loop
     loop-holds
-    shared-slice-read-if1
+    (λ c κs. search needs)
     returns
-    add-i
-    loop-less
+    (λ c. search needs)
+    (λ c. search needs)
     loop-again
     returns-2)

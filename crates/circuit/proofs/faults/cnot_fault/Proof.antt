@@ -5,10 +5,14 @@ use Rattle.circuit.proofs.faults.cnot_fault.Statement.{statement}
 use Rattle.circuit.proofs.faults.cnot_fault.Tie as tie
 
 returns : tie.Need-returns
-returns c = simp (le-leb (c .before .args .n) (c .before .args .a) (omega arith))
+returns c =
+    let start : tie.Start = search in
+    simp (le-leb (start .args .n) (start .args .a) (omega arith))
 
 returns-2 : tie.Need-returns-2
-returns-2 c = let a = c .before .before .args in simp (lt-leb (a .n) (a .a) (omega arith), le-leb (a .n) (a .b) (omega arith))
+returns-2 c =
+    let start : tie.Start = search in
+    let a = start .args in simp (lt-leb (a .n) (a .a) (omega arith), le-leb (a .n) (a .b) (omega arith))
 
 returns-3 : tie.Need-returns-3
 returns-3 c =

@@ -27,24 +27,28 @@ enum-told-3 c = search needs
 
 returns : tie.Need-returns
 returns c =
+    let after-enum-told : tie.After-enum-told = search in
     let after-kind-of : tie.After-kind-of = search in
     let start : tie.Start = search in
     let a = start .args in
-    by-kind (a .n) (a .kind) (a .a) (a .b) Cnot (c .cnot-fault .result) (sym (c .before .enum-told .given .1) ∙ after-kind-of .kind-of .ensures) (c .cnot-fault .ensures)
+    by-kind (a .n) (a .kind) (a .a) (a .b) Cnot (c .cnot-fault .result)
+    (sym (after-enum-told .enum-told .given .1) ∙ after-kind-of .kind-of .ensures) (c .cnot-fault .ensures)
 
 returns-2 : tie.Need-returns-2
 returns-2 c =
+    let after-enum-told2 : tie.After-enum-told2 = search in
     let after-kind-of : tie.After-kind-of = search in
     let start : tie.Start = search in
     let a = start .args in
-    by-kind (a .n) (a .kind) (a .a) (a .b) (Phase (c .before .enum-told2 .given .0 .0)) (c .phase-fault .result)
-    (sym (c .before .enum-told2 .given .1) ∙ after-kind-of .kind-of .ensures) (c .phase-fault .ensures)
+    by-kind (a .n) (a .kind) (a .a) (a .b) (Phase (after-enum-told2 .enum-told2 .given .0 .0)) (c .phase-fault .result)
+    (sym (after-enum-told2 .enum-told2 .given .1) ∙ after-kind-of .kind-of .ensures) (c .phase-fault .ensures)
 
 returns-3 : tie.Need-returns-3
 returns-3 c =
+    let after-kind-of : tie.After-kind-of = search in
     let start : tie.Start = search in
     let a = start .args in
-    by-kind (a .n) (a .kind) (a .a) (a .b) Unknown gateKind (sym (c .enum-told3 .given .1) ∙ c .before .before .kind-of .ensures) refl
+    by-kind (a .n) (a .kind) (a .a) (a .b) Unknown gateKind (sym (c .enum-told3 .given .1) ∙ after-kind-of .kind-of .ensures) refl
 
 pub gate-fault-spec : {M : Type 1} → statement M
 gate-fault-spec =

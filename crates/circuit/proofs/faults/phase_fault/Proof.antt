@@ -5,13 +5,19 @@ use Rattle.circuit.proofs.faults.phase_fault.Statement.{statement}
 use Rattle.circuit.proofs.faults.phase_fault.Tie as tie
 
 returns : tie.Need-returns
-returns c = simp (le-leb (c .before .args .n) (c .before .args .a) (omega arith))
+returns c =
+    let start : tie.Start = search in
+    simp (le-leb (start .args .n) (start .args .a) (omega arith))
 
 returns-2 : tie.Need-returns-2
-returns-2 c = let a = c .before .before .args in simp (lt-leb (a .n) (a .a) (omega arith), ne-eqb (a .b) 0 (omega arith))
+returns-2 c =
+    let start : tie.Start = search in
+    let a = start .args in simp (lt-leb (a .n) (a .a) (omega arith), ne-eqb (a .b) 0 (omega arith))
 
 returns-3 : tie.Need-returns-3
-returns-3 c = let a = c .before .before .args in simp (lt-leb (a .n) (a .a) (omega arith), eq-eqb (a .b) 0 (omega arith))
+returns-3 c =
+    let start : tie.Start = search in
+    let a = start .args in simp (lt-leb (a .n) (a .a) (omega arith), eq-eqb (a .b) 0 (omega arith))
 
 pub phase-fault-spec : {M : Type 1} → statement M
 phase-fault-spec = tie.close (tie.spec returns returns-2 returns-3)

@@ -5,10 +5,14 @@ use Rattle.circuit.proofs.faults.short_fault.Statement.{statement}
 use Rattle.circuit.proofs.faults.short_fault.Tie as tie
 
 returns : tie.Need-returns
-returns c = simp (le-leb (c .before .args .wanted) (c .before .args .bytes) (omega arith))
+returns c =
+    let start : tie.Start = search in
+    simp (le-leb (start .args .wanted) (start .args .bytes) (omega arith))
 
 returns-2 : tie.Need-returns-2
-returns-2 c = simp (lt-leb (c .before .args .wanted) (c .before .args .bytes) (omega arith))
+returns-2 c =
+    let start : tie.Start = search in
+    simp (lt-leb (start .args .wanted) (start .args .bytes) (omega arith))
 
 pub short-fault-spec : {M : Type 1} → statement M
 short-fault-spec = tie.close (tie.spec returns returns-2)

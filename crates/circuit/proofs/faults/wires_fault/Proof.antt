@@ -6,13 +6,19 @@ use Rattle.circuit.proofs.faults.wires_fault.Statement.{statement}
 use Rattle.circuit.proofs.faults.wires_fault.Tie as tie
 
 returns : tie.Need-returns
-returns c = simp (eq-eqb (c .before .args .n) 0 (omega arith))
+returns c =
+    let start : tie.Start = search in
+    simp (eq-eqb (start .args .n) 0 (omega arith))
 
 returns-2 : tie.Need-returns-2
-returns-2 c = simp (ne-eqb (c .before .before .args .n) 0 (omega arith), lt-leb (c .before .before .args .n) maxWires (omega arith))
+returns-2 c =
+    let start : tie.Start = search in
+    simp (ne-eqb (start .args .n) 0 (omega arith), lt-leb (start .args .n) maxWires (omega arith))
 
 returns-3 : tie.Need-returns-3
-returns-3 c = simp (ne-eqb (c .before .before .args .n) 0 (omega arith), le-leb (c .before .before .args .n) maxWires (omega arith))
+returns-3 c =
+    let start : tie.Start = search in
+    simp (ne-eqb (start .args .n) 0 (omega arith), le-leb (start .args .n) maxWires (omega arith))
 
 pub wires-fault-spec : {M : Type 1} → statement M
 wires-fault-spec = tie.close (tie.spec returns returns-2 returns-3)

@@ -32,7 +32,8 @@ loop-again c =
     let s : tie.Start Inv-loop μ-loop = search in (
       search needs,
       put-long (at .loop .rows) _ (at .loop .i) _ (put .put-cell .ensures) ∙ at .loop .inv .1,
-      put-filled (at .loop .rows) _ (at .loop .i) _ (put .put-cell .ensures) (firstRows maxWires (s .args .n)) (omega arith) (at .loop .inv .2)
+      put-filled (at .loop .rows) _ (at .loop .i) _ (put .put-cell .ensures) (firstRows maxWires (s .args .n)) (omega arith)
+          (at .loop .inv .2)
           (row .first-row .ensures ∙ first-entry maxWires (s .args .n) (at .loop .i) (omega arith)),
     )
 
@@ -41,7 +42,8 @@ returns c =
     let at : tie.At-loop Inv-loop μ-loop = search in
     let s : tie.Start Inv-loop μ-loop = search in
     let long = length-first maxWires (s .args .n) in
-    filled-all (at .loop .rows) (firstRows maxWires (s .args .n)) (at .loop .i) (omega (arith, long)) (omega (arith, long)) (at .loop .inv .2)
+    filled-all (at .loop .rows) (firstRows maxWires (s .args .n)) (at .loop .i) (omega (arith, long)) (omega (arith, long))
+    (at .loop .inv .2)
 
 pub first-rows-spec : {M : Type 1} → statement M
 first-rows-spec =

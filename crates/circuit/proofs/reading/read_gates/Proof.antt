@@ -29,13 +29,14 @@ abbrev Kinded : Type 0
 Kinded = tie.After-kind-of Inv-loop μ-loop
 
 abbrev head : Kinded → tie.At-loop Inv-loop μ-loop
-head k = k .before .before .before
+head k = search
 
 abbrev entry : Kinded → tie.Start Inv-loop μ-loop
-entry k = head k .before .before .before
+entry k = search
 
 turn : (k : Kinded) →
-    Turn maxWires (entry k .args .n) (now (entry k .args .gates)) (readBytes (entry k .args .n) (now (entry k .args .gates))) (head k .loop .g)
+    Turn maxWires (entry k .args .n) (now (entry k .args .gates)) (readBytes (entry k .args .n) (now (entry k .args .gates)))
+    (head k .loop .g)
     (head k .loop .weights) (head k .loop .rows)
 turn k = record { fit = entry k .pre .0; inside = omega arith; to = head k .loop .inv .2 }
 
@@ -58,8 +59,11 @@ loop-holds c =
 abbrev Joined : Type 0
 Joined = tie.After-wire-of2 Inv-loop μ-loop
 
+abbrev source : Joined → tie.After-wire-of Inv-loop μ-loop
+source j = search
+
 -- both wires of a CNOT have a row
-wires : (j : Joined) → (j .before .wire-of .result < maxWires) × (j .wire-of2 .result < maxWires)
+wires : (j : Joined) → (source j .wire-of .result < maxWires) × (j .wire-of2 .result < maxWires)
 wires j =
     let k : Kinded = search in
     let t : tie.After-enum-told Inv-loop μ-loop = search in
@@ -122,7 +126,8 @@ loop-again-2 c =
     let k : Kinded = search in (
       search needs,
       search needs,
-      phase-on (turn k) _ (sym (v .said .given .1) ∙ k .kind-of .ensures) (i .wire-of3 .ensures) (q .index-of .ensures .0 ∙ p .cell-at3 .ensures)
+      phase-on (turn k) _ (sym (v .said .given .1) ∙ k .kind-of .ensures) (i .wire-of3 .ensures)
+          (q .index-of .ensures .0 ∙ p .cell-at3 .ensures)
           (add .add-phase .ensures),
     )
 
@@ -167,8 +172,8 @@ read-gates-spec =
     (λ c. search needs)
     loop-again
     (λ c. search needs)
-    (λ c. search needs)
     (λ c κs. search needs)
+    (λ c. search needs)
     cell-at-requires-3
     index-of-requires
     (λ c. search needs)

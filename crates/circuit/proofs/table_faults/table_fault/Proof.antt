@@ -12,52 +12,44 @@ use Rattle.circuit.proofs.table_faults.table_fault.Statement.{statement
 use Rattle.circuit.proofs.table_faults.table_fault.Tie as tie
 
 abbrev Inv-loop : tie.InvT-loop
-Inv-loop n most table p₀ p = (p ≤ length table) × (length table ≡ tableBytes) × (bytesFault n most p (drop p table) ≡ bytesFault n most 0 table)
+Inv-loop n most table p₀ p =
+    (p ≤ length table) × (length table ≡ tableBytes) × (bytesFault n most p (drop p table) ≡ bytesFault n most 0 table)
 
 abbrev μ-loop : tie.MeasureT-loop
 μ-loop n most table p₀ p = length table - p
 
 returns : tie.Need-returns Inv-loop μ-loop
-returns c = let a = c .before .before .args in other-length parities (a .n) (a .most) (now (a .table)) (omega arith)
-
-loop-holds : tie.Need-loop-holds Inv-loop μ-loop
-loop-holds c = search needs
-
-shared-slice-read-byte-fault : tie.Need-shared-slice-read-byte-fault Inv-loop μ-loop
-shared-slice-read-byte-fault c = search needs
-
-byte-fault-requires : tie.Need-byte-fault-requires Inv-loop μ-loop
-byte-fault-requires c κs = search needs
+returns c =
+    let start : tie.Start Inv-loop μ-loop = search in
+    let a = start .args in other-length parities (a .n) (a .most) (now (a .table)) (omega arith)
 
 returns-2 : tie.Need-returns-2 Inv-loop μ-loop
 returns-2 c =
-    let at-loop : tie.At-loop Inv-loop μ-loop = search in
+    let after-byte-fault : tie.After-byte-fault Inv-loop μ-loop = search in
+    let at : tie.At-loop Inv-loop μ-loop = search in
     let start : tie.Start Inv-loop μ-loop = search in
-    let at = at-loop in
     let a = start .args in
-    let f = c .before .byte-fault in
+    let f = after-byte-fault .byte-fault in
     fault-at (a .n) (a .most) (now (a .table)) (at .loop .p) (omega arith) (f .result) (f .ensures) (omega arith)
     ∙ at .loop .inv .2 ∙ long-table parities (a .n) (a .most) (now (a .table)) (at .loop .inv .1)
 
-add-p : tie.Need-add-p Inv-loop μ-loop
-add-p c = search needs
-
-loop-less : tie.Need-loop-less Inv-loop μ-loop
-loop-less c = search needs
-
 loop-again : tie.Need-loop-again Inv-loop μ-loop
 loop-again c =
-    let at-loop : tie.At-loop Inv-loop μ-loop = search in
+    let after-byte-fault : tie.After-byte-fault Inv-loop μ-loop = search in
+    let at : tie.At-loop Inv-loop μ-loop = search in
     let start : tie.Start Inv-loop μ-loop = search in
-    let at = at-loop in
     let a = start .args in
-    let f = c .before .byte-fault in
-    (search needs, search needs, fault-after (a .n) (a .most) (now (a .table)) (at .loop .p) (omega arith) (f .result) (f .ensures) (omega arith) ∙ at .loop .inv .2)
+    let f = after-byte-fault .byte-fault in (
+      search needs,
+      search needs,
+      fault-after (a .n) (a .most) (now (a .table)) (at .loop .p) (omega arith) (f .result) (f .ensures) (omega arith)
+          ∙ at .loop .inv .2,
+    )
 
 returns-3 : tie.Need-returns-3 Inv-loop μ-loop
 returns-3 c =
+    let at : tie.At-loop Inv-loop μ-loop = search in
     let start : tie.Start Inv-loop μ-loop = search in
-    let at = c .before in
     let a = start .args in
     none-left (a .n) (a .most) (now (a .table)) (at .loop .p) (omega arith)
     ∙ at .loop .inv .2 ∙ long-table parities (a .n) (a .most) (now (a .table)) (at .loop .inv .1)
@@ -69,11 +61,11 @@ table-fault-spec =
     Inv-loop
     μ-loop
     returns
-    loop-holds
-    shared-slice-read-byte-fault
-    byte-fault-requires
+    (λ c. search needs)
+    (λ c. search needs)
+    (λ c κs. search needs)
     returns-2
-    add-p
-    loop-less
+    (λ c. search needs)
+    (λ c. search needs)
     loop-again
     returns-3)

@@ -3,11 +3,8 @@ use borrow.Author.Needs.{needs}
 use Rattle.circuit.proofs.table_faults.weights_fault.Statement.{statement}
 use Rattle.circuit.proofs.table_faults.weights_fault.Tie as tie
 
-table-fault-requires : tie.Need-table-fault-requires
-table-fault-requires c κs = search needs
-
 returns : tie.Need-returns
 returns c = c .table-fault .ensures
 
 pub weights-fault-spec : {M : Type 1} → statement M
-weights-fault-spec = tie.close (tie.spec table-fault-requires returns)
+weights-fault-spec = tie.close (tie.spec (λ c κs. search needs) returns)

@@ -6,12 +6,12 @@ use borrow.Author.Needs.{needs}
 use denote.Ref.{now}
 use Rattle.circuit.specs.Limits.{parities, productBits}
 use Rattle.kernel.proofs.Spelled.{Named, spell-named, spell-start, spell-unnamed}
-use Rattle.moves.specs.Pair.{spell}
+use Rattle.moves.specs.Pair.{named}
 use Rattle.kernel.proofs.spelling.spell.Statement.{statement}
 use Rattle.kernel.proofs.spelling.spell.Tie as tie
 
 abbrev Inv-loop : tie.InvT-loop
-Inv-loop m member set₀ s₀ set s = (s ≤ productBits) × (set ≡ spell parities member m s) × Named member m s
+Inv-loop m member set₀ s₀ set s = (s ≤ productBits) × (set ≡ named parities member m s) × Named member m s
 
 abbrev μ-loop : tie.MeasureT-loop
 μ-loop m member set₀ s₀ set s = productBits - s

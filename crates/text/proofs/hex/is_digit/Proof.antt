@@ -6,25 +6,29 @@ use Rattle.text.proofs.hex.is_digit.Statement.{statement}
 use Rattle.text.proofs.hex.is_digit.Tie as tie
 
 returns : tie.Need-returns
-returns c = sym (decimal (c .before .before .args .b) (omega arith) (omega arith) .digit)
+returns c =
+    let s : tie.Start = search in
+    sym (decimal (s .args .b) (omega arith) (omega arith) .digit)
 
 returns-2 : tie.Need-returns-2
 returns-2 c =
-    let start : tie.Start = search in
-    sym (letter (start .args .b) (omega arith) (omega arith) .digit)
+    let s : tie.Start = search in
+    sym (letter (s .args .b) (omega arith) (omega arith) .digit)
 
 returns-3 : tie.Need-returns-3
-returns-3 c = sym (below (c .before .args .b) (omega arith) .digit)
+returns-3 c =
+    let s : tie.Start = search in
+    sym (below (s .args .b) (omega arith) .digit)
 
 returns-4 : tie.Need-returns-4
 returns-4 c =
-    let start : tie.Start = search in
-    sym (between (start .args .b) (omega arith) (omega arith) .digit)
+    let s : tie.Start = search in
+    sym (between (s .args .b) (omega arith) (omega arith) .digit)
 
 returns-5 : tie.Need-returns-5
 returns-5 c =
-    let start : tie.Start = search in
-    sym (above (start .args .b) (omega arith) .digit)
+    let s : tie.Start = search in
+    sym (above (s .args .b) (omega arith) .digit)
 
 pub is-digit-spec : {M : Type 1} → statement M
 is-digit-spec = tie.close (tie.spec returns returns-2 returns-3 returns-4 returns-5)

@@ -5,40 +5,22 @@ use Rattle.text.proofs.Writing.{writes-then}
 use Rattle.text.proofs.lines.put_gate.Statement.{statement}
 use Rattle.text.proofs.lines.put_gate.Tie as tie
 
-put-two-requires : tie.Need-put-two-requires
-put-two-requires c κs = search needs
-
-put-two-requires-2 : tie.Need-put-two-requires-2
-put-two-requires-2 c κs = search needs
-
-put-two-requires-3 : tie.Need-put-two-requires-3
-put-two-requires-3 c κs = search needs
-
-put-byte-requires : tie.Need-put-byte-requires
-put-byte-requires c κs = search needs
-
-same-length : tie.Need-same-length
-same-length c = search needs
-
 returns : tie.Need-returns
 returns c =
-    let after-put-two3 : tie.After-put-two3 = search in
-    let after-put-two2 : tie.After-put-two2 = search in
-    let after-put-two : tie.After-put-two = search in
-    let z = c .before .before in
-    let y = after-put-two3 in
-    let x = after-put-two2 in
-    let w = after-put-two in
-    let first = writes-then (w .put-two .ensures) (x .put-two2 .ensures) (omega arith) in
-    writes-then (writes-then first (y .put-two3 .ensures) (omega arith)) (z .put-byte .ensures) (omega arith)
+    let newline : tie.After-put-byte = search in
+    let b : tie.After-put-two3 = search in
+    let a : tie.After-put-two2 = search in
+    let kind : tie.After-put-two = search in
+    let two = writes-then (kind .put-two .ensures) (a .put-two2 .ensures) (omega arith) in
+    writes-then (writes-then two (b .put-two3 .ensures) (omega arith)) (newline .put-byte .ensures) (omega arith)
 
 pub put-gate-spec : {M : Type 1} → statement M
 put-gate-spec =
     tie.close
     (tie.spec
-    put-two-requires
-    put-two-requires-2
-    put-two-requires-3
-    put-byte-requires
-    same-length
+    (λ c κs. search needs)
+    (λ c κs. search needs)
+    (λ c κs. search needs)
+    (λ c κs. search needs)
+    (λ c. search needs)
     returns)

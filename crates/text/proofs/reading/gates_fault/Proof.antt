@@ -1,85 +1,67 @@
 -- The gate lines passed have the form: the first fault of the rest is that of all.
-use mathlib.Core.Path.{sym, _∙_, _≡_}
-use Prim.Native.Nat.{_-_, _≤_}
+use mathlib.Core.Bool.{true}
+use mathlib.Core.List.{List}
+use mathlib.Core.Path.{_∙_, _≡_, sym}
+use Prim.Native.Nat.{_-_, ℕ}
 use native.Mathlib.Omega.{arith}
-use lib.ListN.{length}
+use lib.ListN.{drop, length}
 use borrow.Author.Needs.{needs}
 use borrow.Author.Tests.{not-false, not-true}
 use denote.Ref.{now}
-use Rattle.circuit.specs.Limits.{maxGates}
 use Rattle.text.proofs.LineForms.{formed-long}
-use Rattle.text.proofs.TextFaults.{faultFrom, gate-right, gate-wrong, no-more, one-too-many}
-use Rattle.text.specs.Limits.{gateDigits, wiresLineBytes}
+use Rattle.text.proofs.TextFaults.{PassedTo, all-passed, line-passed, line-too-many, line-wrong}
+use Rattle.text.specs.Limits.{gateDigits}
+use Rattle.text.specs.Lines.{firstFormed, linesOf}
 use Rattle.text.proofs.reading.gates_fault.Statement.{statement}
 use Rattle.text.proofs.reading.gates_fault.Tie as tie
 
 abbrev Inv-loop : tie.InvT-loop
-Inv-loop text i₀ at₀ i at = (i ≤ maxGates) × (at ≤ length text) × (faultFrom text at i ≡ faultFrom text wiresLineBytes 0)
+Inv-loop text i₀ at₀ i at = PassedTo text at i
 
 abbrev μ-loop : tie.MeasureT-loop
 μ-loop text i₀ at₀ i at = length text - at
 
-loop-holds : tie.Need-loop-holds Inv-loop μ-loop
-loop-holds c = search needs
+-- a line that has its form, seen from behind the test
+abbrev Formed : Type 0
+Formed = tie.Else2 Inv-loop μ-loop
+
+abbrev head : Formed → tie.At-loop Inv-loop μ-loop
+head l = l .before .before .before .before
+
+abbrev text : Formed → List ℕ
+text l = now (head l .before .before .args .text)
+
+formed : (l : Formed) → firstFormed gateDigits (linesOf (drop (head l .loop .at) (text l))) ≡ true
+formed l =
+    let f : tie.After-line-formed Inv-loop μ-loop = search in
+    sym (f .line-formed .ensures) ∙ not-false _ (l .if2 .left)
 
 returns : tie.Need-returns Inv-loop μ-loop
 returns c =
-    let at = c .before .before in
-    let t = now (at .before .before .args .text) in
-    let p = at .loop .at in
-    let i = at .loop .i in
-    sym (one-too-many t p i (omega arith) (omega arith)) ∙ at .loop .inv .2
-
-line-formed-requires : tie.Need-line-formed-requires Inv-loop μ-loop
-line-formed-requires c κs = search needs
-
-add-t7 : tie.Need-add-t7 Inv-loop μ-loop
-add-t7 c = search needs
+    let at : tie.At-loop Inv-loop μ-loop = search in
+    line-too-many (at .loop .inv) (omega arith) (omega arith)
 
 returns-2 : tie.Need-returns-2 Inv-loop μ-loop
 returns-2 c =
-    let at-loop : tie.At-loop Inv-loop μ-loop = search in
-    let at = at-loop in
-    let t = now (at .before .before .args .text) in
-    let p = at .loop .at in
-    let i = at .loop .i in
-    let e = sym (c .before .line-formed .ensures) ∙ not-true _ (c .if2 .taken) in
-    sym (gate-wrong t p i (omega arith) (omega arith) e) ∙ at .loop .inv .2
+    let f : tie.After-line-formed Inv-loop μ-loop = search in
+    let at : tie.At-loop Inv-loop μ-loop = search in
+    line-wrong (at .loop .inv) (omega arith) (omega arith) (sym (f .line-formed .ensures) ∙ not-true _ (c .if2 .taken))
 
 add-at : tie.Need-add-at Inv-loop μ-loop
-add-at c =
-    let at-loop : tie.At-loop Inv-loop μ-loop = search in
-    let start : tie.Start Inv-loop μ-loop = search in
-    let e = sym (c .before .line-formed .ensures) ∙ not-false _ (c .if2 .left) in
-    omega (arith, formed-long (now (start .args .text)) (at-loop .loop .at) gateDigits e)
-
-add-i : tie.Need-add-i Inv-loop μ-loop
-add-i c = search needs
+add-at c = let l : Formed = search in omega (arith, formed-long (text l) (head l .loop .at) gateDigits (formed l))
 
 loop-less : tie.Need-loop-less Inv-loop μ-loop
-loop-less c =
-    let at-loop : tie.At-loop Inv-loop μ-loop = search in
-    let start : tie.Start Inv-loop μ-loop = search in
-    let e = sym (c .before .line-formed .ensures) ∙ not-false _ (c .if2 .left) in
-    omega (arith, formed-long (now (start .args .text)) (at-loop .loop .at) gateDigits e)
+loop-less c = let l : Formed = search in omega (arith, formed-long (text l) (head l .loop .at) gateDigits (formed l))
 
 loop-again : tie.Need-loop-again Inv-loop μ-loop
 loop-again c =
-    let at-loop : tie.At-loop Inv-loop μ-loop = search in
-    let at = at-loop in
-    let t = now (at .before .before .args .text) in
-    let p = at .loop .at in
-    let i = at .loop .i in
-    let e = sym (c .before .line-formed .ensures) ∙ not-false _ (c .if2 .left) in
-    (search needs, omega (arith, formed-long t p gateDigits e), gate-right t p i (omega arith) e ∙ at .loop .inv .2)
+    let at : tie.At-loop Inv-loop μ-loop = search in
+    line-passed (at .loop .inv) (omega arith) (formed (search))
 
 returns-3 : tie.Need-returns-3 Inv-loop μ-loop
 returns-3 c =
-    let at = c .before in
-    let t = now (at .before .before .args .text) in
-    let p = at .loop .at in
-    let i = at .loop .i in
-    sym (no-more t p i (omega arith)) ∙ at .loop .inv .2
+    let at : tie.At-loop Inv-loop μ-loop = search in
+    all-passed (at .loop .inv) (omega arith)
 
 pub gates-fault-spec : {M : Type 1} → statement M
 gates-fault-spec =
@@ -87,13 +69,13 @@ gates-fault-spec =
     (tie.spec
     Inv-loop
     μ-loop
-    loop-holds
+    (λ c. search needs)
     returns
-    line-formed-requires
-    add-t7
+    (λ c κs. search needs)
+    (λ c. search needs)
     returns-2
     add-at
-    add-i
+    (λ c. search needs)
     loop-less
     loop-again
     returns-3)

@@ -1,79 +1,46 @@
 -- The digits passed are digits: the line has the form if the rest of it has.
-use mathlib.Core.Path.{sym, _∙_, _≡_}
-use Prim.Native.Nat.{_+_, _-_, _<_, _≤_}
+use mathlib.Core.Path.{_∙_, sym}
+use Prim.Native.Nat.{_-_}
 use native.Mathlib.Omega.{arith}
-use lib.ListN.{drop, length}
 use borrow.Author.Needs.{needs}
 use borrow.Author.Tests.{not-false, not-true}
 use denote.Ref.{now}
-use Rattle.text.proofs.LineForms.{digit-right, digit-wrong, digits-begin, digits-end, starts, too-short}
-use Rattle.text.specs.Lines.{firstFormed, linesOf}
+use Rattle.text.proofs.LineForms.{DigitsTo, digit-right, digit-wrong, digits-end, digits-none, too-short}
 use Rattle.text.proofs.reading.line_formed.Statement.{statement}
 use Rattle.text.proofs.reading.line_formed.Tie as tie
 
 abbrev Inv-loop : tie.InvT-loop
-Inv-loop text at digits j₀ j = (j ≤ digits) × (at + digits < length text) × (starts (digits - j) (drop (at + j) text) ≡ firstFormed digits (linesOf (drop at text)))
+Inv-loop text at digits j₀ j = DigitsTo text at digits j
 
 abbrev μ-loop : tie.MeasureT-loop
 μ-loop text at digits j₀ j = digits - j
 
-sub-if1 : tie.Need-sub-if1 Inv-loop μ-loop
-sub-if1 c = search needs
-
 returns : tie.Need-returns Inv-loop μ-loop
-returns c = too-short (now (c .before .before .args .text)) (c .before .before .args .at) (c .before .before .args .digits) (omega arith)
+returns c =
+    let s : tie.Start Inv-loop μ-loop = search in
+    too-short (now (s .args .text)) (s .args .at) (s .args .digits) (omega arith)
 
 loop-holds : tie.Need-loop-holds Inv-loop μ-loop
-loop-holds c = (search needs, search needs, digits-begin (now (c .before .before .args .text)) (c .before .before .args .at) (c .before .before .args .digits))
-
-add-is-digit : tie.Need-add-is-digit Inv-loop μ-loop
-add-is-digit c = search needs
-
-shared-slice-read-is-digit : tie.Need-shared-slice-read-is-digit Inv-loop μ-loop
-shared-slice-read-is-digit c = search needs
-
-is-digit-requires : tie.Need-is-digit-requires Inv-loop μ-loop
-is-digit-requires c κs = search needs
+loop-holds c =
+    let s : tie.Start Inv-loop μ-loop = search in
+    digits-none (now (s .args .text)) (s .args .at) (s .args .digits) (omega arith)
 
 returns-2 : tie.Need-returns-2 Inv-loop μ-loop
 returns-2 c =
-    let at-loop : tie.At-loop Inv-loop μ-loop = search in
-    let start : tie.Start Inv-loop μ-loop = search in
-    let at = at-loop in
-    let a = start .args in
-    let e = sym (c .before .is-digit .ensures) ∙ not-true _ (c .if2 .taken) in
-    digit-wrong (now (a .text)) (a .at) (at .loop .j) (omega arith) (a .digits) (omega arith) e ∙ at .loop .inv .2
-
-add-j : tie.Need-add-j Inv-loop μ-loop
-add-j c = search needs
-
-loop-less : tie.Need-loop-less Inv-loop μ-loop
-loop-less c = search needs
+    let d : tie.After-is-digit Inv-loop μ-loop = search in
+    let at : tie.At-loop Inv-loop μ-loop = search in
+    digit-wrong (at .loop .inv) (omega arith) (sym (d .is-digit .ensures) ∙ not-true _ (c .if2 .taken))
 
 loop-again : tie.Need-loop-again Inv-loop μ-loop
 loop-again c =
-    let at-loop : tie.At-loop Inv-loop μ-loop = search in
-    let start : tie.Start Inv-loop μ-loop = search in
-    let at = at-loop in
-    let a = start .args in
-    let e = sym (c .before .is-digit .ensures) ∙ not-false _ (c .if2 .left) in (
-      search needs,
-      search needs,
-      digit-right (now (a .text)) (a .at) (at .loop .j) (omega arith) (a .digits) (omega arith) e ∙ at .loop .inv .2,
-    )
-
-add-result : tie.Need-add-result Inv-loop μ-loop
-add-result c = search needs
-
-shared-slice-read-result : tie.Need-shared-slice-read-result Inv-loop μ-loop
-shared-slice-read-result c = search needs
+    let d : tie.After-is-digit Inv-loop μ-loop = search in
+    let at : tie.At-loop Inv-loop μ-loop = search in
+    digit-right (at .loop .inv) (omega arith) (sym (d .is-digit .ensures) ∙ not-false _ (c .if2 .left))
 
 returns-3 : tie.Need-returns-3 Inv-loop μ-loop
 returns-3 c =
-    let start : tie.Start Inv-loop μ-loop = search in
-    let at = c .before .before in
-    let a = start .args in
-    digits-end (now (a .text)) (a .at) (a .digits) (at .loop .j) (omega arith) (omega arith) ∙ at .loop .inv .2
+    let at : tie.At-loop Inv-loop μ-loop = search in
+    digits-end (at .loop .inv) (omega arith)
 
 pub line-formed-spec : {M : Type 1} → statement M
 line-formed-spec =
@@ -81,16 +48,16 @@ line-formed-spec =
     (tie.spec
     Inv-loop
     μ-loop
-    sub-if1
+    (λ c. search needs)
     returns
     loop-holds
-    add-is-digit
-    shared-slice-read-is-digit
-    is-digit-requires
+    (λ c. search needs)
+    (λ c. search needs)
+    (λ c κs. search needs)
     returns-2
-    add-j
-    loop-less
+    (λ c. search needs)
+    (λ c. search needs)
     loop-again
-    add-result
-    shared-slice-read-result
+    (λ c. search needs)
+    (λ c. search needs)
     returns-3)

@@ -1,75 +1,60 @@
 -- Line one, then the gate lines.
-use mathlib.Core.Path.{sym, _∙_}
+use mathlib.Core.Bool.{true}
+use mathlib.Core.List.{List}
+use mathlib.Core.Path.{_∙_, _≡_, sym}
+use Prim.Native.Nat.{ℕ}
 use native.Mathlib.Omega.{arith}
 use borrow.Author.Needs.{needs}
 use borrow.Author.Tests.{not-false, not-true}
 use denote.Ref.{now}
 use Rattle.text.proofs.TextFaults.{count-passed, count-refused, one-long, one-wrong}
+use Rattle.text.specs.Limits.{wiresDigits}
+use Rattle.text.specs.Lines.{firstFormed, linesOf}
 use Rattle.text.proofs.reading.text_fault.Statement.{statement}
 use Rattle.text.proofs.reading.text_fault.Tie as tie
 
-line-formed-requires : tie.Need-line-formed-requires
-line-formed-requires c κs = search needs
+-- line one has its form, seen from behind the test
+abbrev text : tie.Else1 → List ℕ
+text l = now (l .before .before .before .args .text)
+
+formed : (l : tie.Else1) → firstFormed wiresDigits (linesOf (text l)) ≡ true
+formed l = let f : tie.After-line-formed = search in sym (f .line-formed .ensures) ∙ not-false _ (l .if1 .left)
 
 returns : tie.Need-returns
 returns c =
-    let l = c .before in
-    sym (one-wrong (now (l .before .before .args .text)) (sym (l .line-formed .ensures) ∙ not-true _ (c .if1 .taken)))
+    let f : tie.After-line-formed = search in
+    let s : tie.Start = search in
+    sym (one-wrong (now (s .args .text)) (sym (f .line-formed .ensures) ∙ not-true _ (c .if1 .taken)))
 
 byte-at-requires : tie.Need-byte-at-requires
-byte-at-requires c κs =
-    let l = c .before in
-    let t = now (l .before .before .args .text) in
-    let e = sym (l .line-formed .ensures) ∙ not-false _ (c .if1 .left) in
-    omega (arith, one-long t e)
-
-cast-wires-fault : tie.Need-cast-wires-fault
-cast-wires-fault c = search needs
-
-wires-fault-requires : tie.Need-wires-fault-requires
-wires-fault-requires c κs = search needs
+byte-at-requires c κs = let l : tie.Else1 = search in omega (arith, one-long (text l) (formed l))
 
 returns-2 : tie.Need-returns-2
 returns-2 c =
-    let else1 : tie.Else1 = search in
-    let after-line-formed : tie.After-line-formed = search in
-    let l = after-line-formed in
-    let t = now (l .before .before .args .text) in
-    let e = sym (l .line-formed .ensures) ∙ not-false _ (else1 .if1 .left) in
-    let f = c .before .wires-fault in
-    let v = c .before .before .byte-at in
-    count-refused t e (f .result) (v .result) (f .ensures) (v .ensures) (omega arith)
+    let f : tie.After-wires-fault = search in
+    let v : tie.After-byte-at = search in
+    let l : tie.Else1 = search in
+    count-refused (text l) (formed l) (f .wires-fault .ensures) (v .byte-at .ensures) (omega arith)
 
 gates-fault-requires : tie.Need-gates-fault-requires
-gates-fault-requires c κs =
-    let else1 : tie.Else1 = search in
-    let after-line-formed : tie.After-line-formed = search in
-    let l = after-line-formed in
-    let t = now (l .before .before .args .text) in
-    let e = sym (l .line-formed .ensures) ∙ not-false _ (else1 .if1 .left) in
-    omega (arith, one-long t e)
+gates-fault-requires c κs = let l : tie.Else1 = search in omega (arith, one-long (text l) (formed l))
 
 returns-3 : tie.Need-returns-3
 returns-3 c =
-    let after-byte-at : tie.After-byte-at = search in
-    let else1 : tie.Else1 = search in
-    let after-line-formed : tie.After-line-formed = search in
-    let l = after-line-formed in
-    let t = now (l .before .before .args .text) in
-    let e = sym (l .line-formed .ensures) ∙ not-false _ (else1 .if1 .left) in
-    let f = c .before .before .wires-fault in
-    let v = after-byte-at .byte-at in
-    c .gates-fault .ensures ∙ count-passed t e (f .result) (v .result) (f .ensures) (v .ensures) (omega arith)
+    let f : tie.After-wires-fault = search in
+    let v : tie.After-byte-at = search in
+    let l : tie.Else1 = search in
+    c .gates-fault .ensures ∙ count-passed (text l) (formed l) (f .wires-fault .ensures) (v .byte-at .ensures) (omega arith)
 
 pub text-fault-spec : {M : Type 1} → statement M
 text-fault-spec =
     tie.close
     (tie.spec
-    line-formed-requires
+    (λ c κs. search needs)
     returns
     byte-at-requires
-    cast-wires-fault
-    wires-fault-requires
+    (λ c. search needs)
+    (λ c κs. search needs)
     returns-2
     gates-fault-requires
     returns-3)
