@@ -15,7 +15,7 @@ use Rattle.circuit.specs.TableFaults.{callFault, marksFault, weightsFault}
 use Rattle.weights.specs.Entry.{coefficientsFault, listsFault, newWeightsFault, oddSetFault}
 use Rattle.weights.specs.Lists.{ListsFit}
 
--- a wire count of 1 to 8
+-- a wire count that is no fault
 abbrev pub Wires : ℕ → Type 0
 Wires n = (1 ≤ n) × (n ≤ maxWires)
 

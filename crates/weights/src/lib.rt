@@ -35,8 +35,8 @@ pub fn odd_set(n: usize, weights: &[Weight], marks: &mut [Mark]) -> Reply
     Reply::Done
 }
 
-// The coefficients of weights: l(i) at i, q(i, j) at 8 j + i, c(i, j, k) at 64 k + 8 j + i, for wires i < j < k below n, and 0 elsewhere.
-// A refusal leaves the three lists as they were.
+// The coefficients of weights: l(i) at i, q(i, j) at N j + i, c(i, j, k) at N N k + N j + i, for wires i < j < k below n, and 0 elsewhere;
+// N is MAX_WIRES. A refusal leaves the three lists as they were.
 pub fn coefficients(
     n: usize,
     weights: &[Weight],

@@ -47,7 +47,7 @@ pub fn put_list(n: usize, w: &[Weight], of: Degree, out: &mut [Coefficient])
     }
 }
 
-// What stands at p: l(i) at i, q(i, j) at 8 j + i, c(i, j, k) at 64 k + 8 j + i.
+// What stands at p: l(i) at i, q(i, j) at N j + i, c(i, j, k) at N N k + N j + i, where N is MAX_WIRES.
 fn entry_at(n: usize, w: &[Weight], of: Degree, p: usize) -> Coefficient
     requires { ⌜ (length (now w) ≤ parities) × (p < sizeOf maxWires of) ⌝ }
     ensures { λ r. ⌜ r ≡ entryOf maxWires n (now (w .entry)) of p ⌝ }

@@ -10,19 +10,19 @@ use Rattle.weights.proofs.rests.pair_with.Tie as tie
 returns : tie.Need-returns
 returns c =
     let s : tie.Start = search in
-    same-wire maxWires (now (s .args .q)) (s .args .i) (s .args .j) (search)
+    same-wire maxWires (now (s .args .q)) (s .args .i) (s .args .j) (omega arith)
 
 returns-2 : tie.Need-returns-2
 returns-2 c =
     let r : tie.After-pair-rest = search in
     let s : tie.Start = search in
-    lower-wire maxWires (now (s .args .q)) (s .args .i) (s .args .j) _ (search) (search) (omega arith) (r .pair-rest .ensures .0)
+    lower-wire maxWires (now (s .args .q)) (s .args .i) (s .args .j) _ (omega arith) (search) (omega arith) (r .pair-rest .ensures .0)
 
 returns-3 : tie.Need-returns-3
 returns-3 c =
     let r : tie.After-pair-rest2 = search in
     let s : tie.Start = search in
-    higher-wire maxWires (now (s .args .q)) (s .args .i) (s .args .j) _ (search) (search) (omega arith) (r .pair-rest2 .ensures .0)
+    higher-wire maxWires (now (s .args .q)) (s .args .i) (s .args .j) _ (omega arith) (search) (omega arith) (r .pair-rest2 .ensures .0)
 
 pub pair-with-spec : {M : Type 1} → statement M
 pair-with-spec =
