@@ -47,7 +47,8 @@ loop-again c =
     let p : tie.After-cell-at Inv-loop μ-loop = search in
     let at : tie.At-loop Inv-loop μ-loop = search in (
       search needs,
-      built-more (at .loop .inv .1) (p .cell-at .ensures) (not-a .if1 .taken) (not-b .if2 .taken) (k .column .ensures .0) (c .insert .ensures),
+      built-more (at .loop .inv .1) (p .cell-at .ensures) (not-a .if1 .taken) (not-b .if2 .taken) (k .column .ensures .0)
+          (c .insert .ensures),
     )
 
 loop-again-2 : tie.Need-loop-again-2 Inv-loop μ-loop
