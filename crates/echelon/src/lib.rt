@@ -1,10 +1,11 @@
-// An xor basis ("echelon") in tables of PRODUCT_BITS slots, in which the finder eliminates columns. Slot s holds 0, or a number whose leading bit
-// is s; beside it stand a mask of slots and the parity whose column opened it. Internal: no entry for users.
+// An xor basis ("echelon") in tables of PRODUCT_BITS slots, in which the finder eliminates columns. Slot s holds 0, or a number whose
+// leading bit is s; beside it stand a mask of slots and the parity whose column opened it. Internal: no entry for users.
 ghost use mathlib.Core.Logic.{_≢_};
 ghost use Prim.Native.Nat.{_<_, _^_};
-ghost use Rattle.circuit.specs.Limits.{productBits};
+ghost use Rattle.circuit.specs.Limits.{parities, productBits};
 ghost use Rattle.gf2.specs.Echelon.{Shape};
 ghost use Rattle.echelon.specs.Slots.{LeadingBit, Puts, Reduces, Slots};
+use circuit::cells::put_cell;
 use circuit::limits::PRODUCT_BITS;
 use circuit::limits::Parity;
 
@@ -12,7 +13,7 @@ pub enum Reduced {
     // The columns of the slots in the mask xor to the number.
     Dependent { mask: u64 },
     // No combination of the slots. What is left of it has its leading bit at the slot, which is empty.
-    Independent { slot: usize, rest: u64, mask: u64 },
+    Independent { slot: usize, left: u64, mask: u64 },
 }
 
 // Takes slots off v, each time the one at its leading bit.
@@ -21,18 +22,18 @@ pub fn reduce(vec: &[u64; PRODUCT_BITS], mask: &[u64; PRODUCT_BITS], v: u64) -> 
     requires { ⌜ v < 2 ^ productBits ⌝ }
     ensures { λ r. ⌜ Reduces (now (vec .entry)) (now (mask .entry)) v r ⌝ }
 {
-    let mut rest = v;
+    let mut left = v;
     let mut m: u64 = 0;
-    while rest != 0 {
-        let s = leading(rest);
+    while left != 0 {
+        let s = leading(left);
         if vec[s] == 0 {
             return Reduced::Independent {
                 slot: s,
-                rest: rest,
+                left: left,
                 mask: m,
             };
         }
-        rest = rest ^ vec[s];
+        left = left ^ vec[s];
         m = m ^ mask[s];
     }
     Reduced::Dependent { mask: m }
@@ -55,7 +56,7 @@ pub fn insert(
     member: &mut [Parity; PRODUCT_BITS],
 )
     requires { ⌜ Slots (now vec) (now mask) (now member) ⌝ }
-    requires { ⌜ v < 2 ^ productBits ⌝ }
+    requires { ⌜ (y < parities) × (v < 2 ^ productBits) ⌝ }
     ensures { λ _. ⌜ Puts y v (now (vec .entry)) (now (mask .entry)) (now (member .entry))
         (now (vec .exit)) (now (mask .exit)) (now (member .exit)) ⌝ }
 {
@@ -63,12 +64,12 @@ pub fn insert(
         Reduced::Dependent { mask: _ } => {}
         Reduced::Independent {
             slot,
-            rest,
+            left,
             mask: m,
         } => {
-            vec[slot] = rest;
+            vec[slot] = left;
             mask[slot] = m ^ (1 << slot);
-            member[slot] = y;
+            put_cell(member, slot, y);
         }
     }
 }

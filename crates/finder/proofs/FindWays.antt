@@ -1,28 +1,23 @@
 -- One law for each way out of the entry `find`: the tests that led there give the reply.
 use mathlib.Core.List.{List}
 use mathlib.Core.Logic.{_≢_}
-use mathlib.Core.Path.{_∙_, _≡_, ap, ap₂, refl, sym}
+use mathlib.Core.Path.{_∙_, _≡_, ap, refl, sym}
 use Prim.Native.Nat.{_≤_, ℕ}
 use lib.ListN.{length}
 use Rattle.circuit.proofs.Judging.{lent-pass}
+use Rattle.circuit.proofs.TableRule.{call-passes, marks-sound}
 use Rattle.circuit.specs.Faults.{lentFault}
 use Rattle.circuit.specs.Limits.{maxWires, moveCells, parities}
 use Rattle.circuit.specs.Sound.{SoundMarks}
-use Rattle.kernel.specs.declared.Offered.the-variants.{Nothing as None, Separating}
-use Rattle.circuit.proofs.TableRule.{marks-sound}
-use Rattle.circuit.proofs.TableRule.{call-passes}
-use Rattle.circuit.specs.TableFaults.{callFault, marksFault}
+use Rattle.circuit.specs.TableFaults.{marksFault}
+use Rattle.moves.specs.declared.Sought.the-variants.{Found as Got, Nothing as None}
 use Rattle.finder.proofs.OnWires.{searchable, searched-legal, searched-none}
 use Rattle.finder.specs.Entry.{FindMove, findFault}
 use Rattle.finder.specs.Search.{Searched}
 use Rattle.finder.specs.declared.Finding.the-variants.{Found, Nothing, Refused}
 
--- f is the fault of the call, by those of the cells and of the marks
-module _ (n : ℕ) (marks cells : List ℕ) (f lent table : ℕ) (by-lent : lent ≡ lentFault (length cells) moveCells) (by-table : table ≡ marksFault n marks)
-    (by-call : f ≡ callFault n lent table) where
-  judged : f ≡ findFault n marks (length cells)
-  judged = by-call ∙ ap₂ (callFault n) by-lent by-table
-
+-- f is the fault of the call
+module _ (n : ℕ) (marks cells : List ℕ) (f : ℕ) (judged : f ≡ findFault n marks (length cells)) where
   pub find-refused : f ≢ 0 → FindMove n marks cells cells (Refused f 0)
   find-refused h = record { refuses = λ g. (ap (λ (x : ℕ). Refused x 0) judged, refl); answers = λ e. absurd (h (judged ∙ e)) }
 
@@ -33,13 +28,10 @@ module _ (n : ℕ) (marks cells : List ℕ) (f lent table : ℕ) (by-lent : lent
     sound : SoundMarks parities n marks
     sound = marks-sound parities n marks .0 (passed .3)
 
-    pub may-search : SoundMarks parities maxWires marks
-    may-search = searchable n (passed .1) marks sound
+    pub may-search : SoundMarks parities maxWires marks × (length cells ≡ moveCells)
+    may-search = (searchable n (passed .1) marks sound, lent-pass (length cells) moveCells (passed .2))
 
-    pub cells-fit : length cells ≡ moveCells
-    cells-fit = lent-pass (length cells) moveCells (passed .2)
-
-    pub find-found : (cells′ : List ℕ) → Searched marks cells cells′ Separating → FindMove n marks cells cells′ Found
+    pub find-found : (cells′ : List ℕ) → Searched marks cells cells′ Got → FindMove n marks cells cells′ Found
     find-found cells′ s =
         record { refuses = λ g. absurd (g (sym judged ∙ clear)); answers = λ e. searched-legal n (passed .1) marks sound cells′ s }
 

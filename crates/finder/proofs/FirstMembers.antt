@@ -1,9 +1,9 @@
--- The first members of an odd set are enough to search: a move that is legal for them is legal for all, and where they are more than the bound of
--- document 01, they have one.
+-- The first members of an odd set are enough to search: a move that is legal for them is legal for all, and where they are more than the
+-- bound of document 01, they have one.
 use mathlib.Core.List.{List}
 use mathlib.Core.Logic.{_⊎_, inl, inr}
 use mathlib.Core.Path.{_∙_, _≡_, ap, subst, sym}
-use Prim.Native.Nat.{_*_, _+_, _<_, _≤_, suc, ℕ}
+use Prim.Native.Nat.{_*_, _+_, _-_, _<_, _≤_, suc, ℕ}
 use native.Mathlib.Decide.{decLt}
 use native.Mathlib.Nat.{le-refl, mul-one}
 use native.Mathlib.Omega.{arith}
@@ -18,8 +18,8 @@ use Rattle.gf2.proofs.Table.{length-tabulate}
 use Rattle.gf2.specs.Sum.{delta}
 use Rattle.kernel.proofs.Answered.{mark-of}
 use Rattle.kernel.specs.Members.{Members, marksOf}
-use Rattle.kernel.specs.declared.Offered.{Offered}
-use Rattle.kernel.specs.declared.Offered.the-variants.{Nothing, Separating}
+use Rattle.moves.specs.declared.Sought.{Sought}
+use Rattle.moves.specs.declared.Sought.the-variants.{Found, Nothing}
 use Rattle.moves.proofs.Bound.{bound}
 use Rattle.moves.proofs.Laws.{limits-suffice}
 use Rattle.moves.proofs.Sets.{occ, sumOver-occ}
@@ -28,8 +28,8 @@ use Rattle.finder.proofs.Listing.{gathered-length, gathered-members, ga
 use Rattle.finder.specs.Search.{Enough, Gathered, Searched}
 
 -- a move stays legal where more is marked
-legal-more : (most n : ℕ) (marks more : List ℕ) → ((p : ℕ) → weight marks p ≤ weight more p) → ((p : ℕ) → weight more p < 2) → (z : ℕ) (Y : List ℕ)
-    → Legal most n marks z Y → Legal most n more z Y
+legal-more : (most n : ℕ) (marks more : List ℕ) → ((p : ℕ) → weight marks p ≤ weight more p) → ((p : ℕ) → weight more p < 2)
+    → (z : ℕ) (Y : List ℕ) → Legal most n marks z Y → Legal most n more z Y
 legal-more most n marks more le bits z Y g =
     let s = g .separates in
     record {
@@ -72,7 +72,13 @@ module _ (k : ℕ) (ys : List ℕ) (h : Members ys) (fits : k ≤ length ys) whe
   pub first-members : Members (take k ys)
   first-members =
       record {
-        ordered = λ i l. omega (arith, getD-take k ys i 0 (omega (arith, long)), getD-take k ys (suc i) 0 (omega (arith, long)), h .ordered i (omega (arith, long)));
+        ordered =
+            λ i l. omega (
+              arith,
+              getD-take k ys i 0 (omega (arith, long)),
+              getD-take k ys (suc i) 0 (omega (arith, long)),
+              h .ordered i (omega (arith, long)),
+            );
         below = λ i l. omega (arith, getD-take k ys i 0 (omega (arith, long)), h .below i (omega (arith, long)));
         sound =
             record {
@@ -84,16 +90,25 @@ module _ (k : ℕ) (ys : List ℕ) (h : Members ys) (fits : k ≤ length ys) whe
       }
 
   -- none is legal for the first: then they are all, since more than the bound have a legal move
-  all-or-none : (k ≡ length ys) ⊎ (productBits + 1 < k) → ((z : ℕ) (Y : List ℕ) → Legal maxMembers maxWires (marksOf (take k ys)) z Y → ⊥)
+  all-or-none : (k ≡ length ys) ⊎ (productBits + 1 < k)
+      → ((z : ℕ) (Y : List ℕ) → Legal maxMembers maxWires (marksOf (take k ys)) z Y → ⊥)
       → (z : ℕ) (Y : List ℕ) → Legal maxMembers maxWires (marksOf ys) z Y → ⊥
-  all-or-none (inl e) none = subst (λ (l : List ℕ). (z : ℕ) (Y : List ℕ) → Legal maxMembers maxWires (marksOf l) z Y → ⊥) (take-all k ys (omega arith)) none
+  all-or-none (inl e) none =
+      subst (λ (l : List ℕ). (z : ℕ) (Y : List ℕ) → Legal maxMembers maxWires (marksOf l) z Y → ⊥) (take-all k ys (omega arith)) none
   all-or-none (inr l) none =
       let s = limits-suffice maxWires (le-refl _) in
-      absurd (omega (arith, bound parities maxWires maxMembers (marksOf (take k ys)) (first-members .sound) (s .1) none, s .2, members-listed (take k ys) first-members, long))
+      absurd (omega (
+        arith,
+        bound parities maxWires maxMembers (marksOf (take k ys)) (first-members .sound) (s .1) none,
+        s .2,
+        members-listed (take k ys) first-members,
+        long,
+      ))
 
   -- what was found of the first is found of all
-  pub first-search : Enough (length ys) k → (cells cells′ : List ℕ) (r : Offered) → Searched (marksOf (take k ys)) cells cells′ r → Searched (marksOf ys) cells cells′ r
-  first-search e cells cells′ Separating s =
+  pub first-search : Enough (length ys) k → (cells cells′ : List ℕ) (r : Sought) → Searched (marksOf (take k ys)) cells cells′ r
+      → Searched (marksOf ys) cells cells′ r
+  first-search e cells cells′ Found s =
       record {
         z = s .z;
         Y = s .Y;
@@ -102,24 +117,22 @@ module _ (k : ℕ) (ys : List ℕ) (h : Members ys) (fits : k ≤ length ys) whe
       }
   first-search e cells cells′ Nothing s = (s .0, all-or-none (e .which) (s .1))
 
--- ---- of what was gathered, the first m
+-- ---- of what was gathered, the first m, as the code takes that part of the list
 
-module _ (marks list : List ℕ) (count m : ℕ) (sound : SoundMarks parities maxWires marks) (g : Gathered marks list count) (e : Enough count m) where
+module _ {marks list : List ℕ} {count m : ℕ} (sound : SoundMarks parities maxWires marks) (g : Gathered marks list count)
+    (e : Enough count m) (ys : List ℕ) (front : ys ≡ take (m - 0) (drop 0 list)) where
   counted : length (take count list) ≡ count
-  counted = gathered-length marks list count sound g
+  counted = gathered-length sound g
 
-  same : take m (take count list) ≡ take m list
-  same = take-take m count list (e .fits)
+  same : take m (take count list) ≡ ys
+  same = let z : m - 0 ≡ m = omega arith in take-take m count list (e .fits) ∙ sym (rw z at front)
 
-  pub enough-length : length (take m list) ≡ m
-  enough-length = length-take-le m list (omega (arith, e .fits, g .fits, g .long))
-
-  pub enough-members : Members (take m list)
-  enough-members = subst Members same (first-members m (take count list) (gathered-members marks list count sound g) (omega (arith, e .fits, counted)))
+  pub enough-members : Members ys
+  enough-members = subst Members same (first-members m (take count list) (gathered-members sound g) (omega (arith, e .fits, counted)))
 
   -- what was found of them is found of the marks
-  pub enough-search : (cells cells′ : List ℕ) (r : Offered) → Searched (marksOf (take m list)) cells cells′ r → Searched marks cells cells′ r
+  pub enough-search : (cells cells′ : List ℕ) (r : Sought) → Searched (marksOf ys) cells cells′ r → Searched marks cells cells′ r
   enough-search cells cells′ r s =
-      gathered-search marks list count sound g cells cells′ r
-      (first-search m (take count list) (gathered-members marks list count sound g) (omega (arith, e .fits, counted)) (rw counted e) cells cells′ r
+      gathered-search sound g cells cells′ r
+      (first-search m (take count list) (gathered-members sound g) (omega (arith, e .fits, counted)) (rw counted e) cells cells′ r
       (subst (λ (l : List ℕ). Searched (marksOf l) cells cells′ r) (sym same) s))

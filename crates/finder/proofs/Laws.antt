@@ -6,15 +6,14 @@ use Prim.Native.Nat.{_*_, _+_, _/_, _≤_, ℕ}
 use native.Mathlib.Decide.{ℕ-discrete}
 use lib.ListN.{length}
 use Rattle.circuit.proofs.Judging.{lent-pass, lent-well}
+use Rattle.circuit.proofs.TableRule.{call-passes, marks-sound, passes-call}
 use Rattle.circuit.specs.Faults.{lentFault}
 use Rattle.circuit.specs.Limits.{maxMembers, maxWires, moveCells, parities}
 use Rattle.circuit.specs.OddSet.{members}
 use Rattle.circuit.specs.Sound.{SoundMarks}
+use Rattle.circuit.specs.TableFaults.{marksFault}
 use Rattle.moves.proofs.Laws.{limits-suffice, none-legal-bound}
 use Rattle.moves.specs.Move.{Legal}
-use Rattle.circuit.proofs.TableRule.{marks-sound}
-use Rattle.circuit.proofs.TableRule.{call-passes, passes-call}
-use Rattle.circuit.specs.TableFaults.{marksFault}
 use Rattle.finder.specs.Entry.{Answers, FindMove, findFault, numberOf, placeOf}
 use Rattle.finder.specs.declared.Finding.{Finding}
 use Rattle.finder.specs.declared.Finding.the-variants.{Found, Nothing, Refused}
@@ -31,7 +30,8 @@ pub find-accepts : (n : ℕ) (marks : List ℕ) (cells : ℕ) → (findFault n m
 find-accepts n marks cells = (
   λ e. let a = call-passes n (lentFault cells moveCells) (marksFault n marks) e in
       record { some = a .0; few = a .1; long = lent-pass cells moveCells (a .2); marked = marks-sound parities n marks .0 (a .3) },
-  λ s. passes-call n (lentFault cells moveCells) (marksFault n marks) (s .some) (s .few) (lent-well cells moveCells (s .long)) (marks-sound parities n marks .1 (s .marked)),
+  λ s. passes-call n (lentFault cells moveCells) (marksFault n marks) (s .some) (s .few) (lent-well cells moveCells (s .long))
+      (marks-sound parities n marks .1 (s .marked)),
 )
 
 -- there is a legal move

@@ -13,7 +13,13 @@ module _ (n : ℕ) (fit : n ≤ maxWires) (marks : List ℕ) (sound : SoundMarks
 
   pub searched-legal : (cells : List ℕ) → LegalCells maxMembers maxWires marks cells → LegalCells maxMembers n marks cells
   searched-legal cells f =
-      record { z = f .z; Y = f .Y; is = f .is; legal = legal-wires parities n maxWires maxMembers marks fit sound (f .z) (f .Y) .1 (f .legal) }
+      record {
+        z = f .z;
+        Y = f .Y;
+        is = f .is;
+        legal = legal-wires parities n maxWires maxMembers marks fit sound (f .z) (f .Y) .1 (f .legal);
+      }
 
-  pub searched-none : ((z : ℕ) (Y : List ℕ) → Legal maxMembers maxWires marks z Y → ⊥) → (z : ℕ) (Y : List ℕ) → Legal maxMembers n marks z Y → ⊥
+  pub searched-none : ((z : ℕ) (Y : List ℕ) → Legal maxMembers maxWires marks z Y → ⊥)
+      → (z : ℕ) (Y : List ℕ) → Legal maxMembers n marks z Y → ⊥
   searched-none none z Y l = none z Y (legal-wires parities n maxWires maxMembers marks fit sound z Y .0 l)

@@ -8,9 +8,9 @@ use lib.ListN.{getD, length}
 use Rattle.circuit.specs.Limits.{maxMembers, maxWires}
 use Rattle.kernel.proofs.Answered.{member-in}
 use Rattle.kernel.specs.Answers.{Neither, Offers}
-use Rattle.kernel.specs.declared.Offered.{Offered}
-use Rattle.kernel.specs.declared.Offered.the-variants.{Nothing}
-use Rattle.kernel.specs.Members.{Members, marksOf}
+use Rattle.moves.specs.declared.Sought.{Sought}
+use Rattle.moves.specs.declared.Sought.the-variants.{Nothing}
+use Rattle.kernel.specs.Members.{Members, Pair, marksOf}
 use Rattle.moves.proofs.Pairs.{none-both}
 use Rattle.moves.specs.Move.{Legal}
 use Rattle.moves.specs.Sets.{Ascending, In}
@@ -28,14 +28,26 @@ later-larger ys h i (suc j) l k = go (ℕ-discrete i j) (λ g. later-larger ys h
 abbrev pub Passed : List ℕ → ℕ → ℕ → Type 0
 Passed ys i j = Neither (marksOf ys) (getD ys i 0) (getD ys j 0)
 
+-- a goes before b: two members
+pub places-pair : {ys : List ℕ} {i j a b : ℕ} → Members ys → i < j → j < length ys → a ≡ getD ys i 0 → b ≡ getD ys j 0 → Pair ys a b
+places-pair {ys} {i} {j} h l k p q =
+    record {
+      members = h;
+      a-in = (i, omega arith, sym p);
+      b-in = (j, k, sym q);
+      apart = λ e. omega (arith, later-larger ys (h .ordered) i j l k);
+    }
+
 -- the kernel offered nothing
-pub pair-passed : (ys : List ℕ) (i j : ℕ) (cells cells′ : List ℕ) (r : Offered) → r ≡ Nothing → Offers ys (getD ys i 0) (getD ys j 0) cells cells′ r
-    → (cells′ ≡ cells) × Passed ys i j
-pair-passed ys i j cells cells′ r e o = rw e at o
+pub pair-passed : (ys : List ℕ) (i j a b : ℕ) (cells cells′ : List ℕ) (r : Sought) → a ≡ getD ys i 0 → b ≡ getD ys j 0 → r ≡ Nothing
+    → Offers ys a b cells cells′ r → (cells′ ≡ cells) × Passed ys i j
+pair-passed ys i j a b cells cells′ r p q e o = rw (p, q) at (rw e at o)
 
 pub all-passed : (ys : List ℕ) → Members ys → ((i : ℕ) → i < length ys → (j : ℕ) → j < length ys → i < j → Passed ys i j)
     → (z : ℕ) (Y : List ℕ) → Legal maxMembers maxWires (marksOf ys) z Y → ⊥
-all-passed ys h passed = none-both maxMembers maxWires (marksOf ys) (λ a b ma mb l. let n = pair a b (member-in ys h a ma) (member-in ys h b mb) l in (n .first, n .second))
+all-passed ys h passed =
+    none-both maxMembers maxWires (marksOf ys)
+    (λ a b ma mb l. let n = pair a b (member-in ys h a ma) (member-in ys h b mb) l in (n .first, n .second))
   where
     pair : (a b : ℕ) → In a ys → In b ys → a < b → Neither (marksOf ys) a b
     pair a b p q l = go (ℕ-discrete (p .0) (q .0)) (decLt (p .0) (q .0))

@@ -6,9 +6,9 @@ use Prim.Native.Nat.{ℕ}
 use lib.ListN.{length}
 use Rattle.circuit.specs.Faults.{lentFault}
 use Rattle.circuit.specs.Limits.{maxMembers, moveCells}
+use Rattle.circuit.specs.TableFaults.{callFault, marksFault}
 use Rattle.moves.specs.Log.{LegalCells}
 use Rattle.moves.specs.Move.{Legal}
-use Rattle.circuit.specs.TableFaults.{callFault, marksFault}
 use Rattle.finder.specs.declared.Finding.{Finding}
 use Rattle.finder.specs.declared.Finding.the-variants.{Found, Nothing, Refused}
 
@@ -27,7 +27,8 @@ placeOf (Refused number place) = place
 abbrev pub findFault : ℕ → List ℕ → ℕ → ℕ
 findFault n marks cells = callFault n (lentFault cells moveCells) (marksFault n marks)
 
--- the answer for sound arguments: the cells of a legal move; or none, and then no z and Y at all make a legal move, and the cells are as they were
+-- the answer for sound arguments: the cells of a legal move; or none, and then no z and Y at all make a legal move, and the cells are as
+-- they were
 abbrev pub Answers : ℕ → List ℕ → List ℕ → List ℕ → Finding → Type 0
 Answers n marks cells cells′ Found = LegalCells maxMembers n marks cells′
 Answers n marks cells cells′ Nothing = (cells′ ≡ cells) × ((z : ℕ) (Y : List ℕ) → Legal maxMembers n marks z Y → ⊥)

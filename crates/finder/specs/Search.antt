@@ -6,8 +6,8 @@ use Prim.Native.Nat.{_+_, _<_, _≤_, ℕ}
 use lib.ListN.{length, take}
 use Rattle.circuit.specs.Limits.{maxMembers, maxWires, parities, productBits}
 use Rattle.circuit.specs.Sound.{weight}
-use Rattle.kernel.specs.declared.Offered.{Offered}
-use Rattle.kernel.specs.declared.Offered.the-variants.{Nothing, Separating}
+use Rattle.moves.specs.declared.Sought.{Sought}
+use Rattle.moves.specs.declared.Sought.the-variants.{Found, Nothing}
 use Rattle.moves.specs.Log.{LegalCells}
 use Rattle.moves.specs.Move.{Legal}
 use Rattle.moves.specs.Sets.{listed}
@@ -24,6 +24,6 @@ pub record Enough (count m : ℕ) : Type 0 where
   pub which : (m ≡ count) ⊎ (productBits + 1 < m)
 
 -- a legal move is written, or there is none
-abbrev pub Searched : List ℕ → List ℕ → List ℕ → Offered → Type 0
-Searched marks cells cells′ Separating = LegalCells maxMembers maxWires marks cells′
+abbrev pub Searched : List ℕ → List ℕ → List ℕ → Sought → Type 0
+Searched marks cells cells′ Found = LegalCells maxMembers maxWires marks cells′
 Searched marks cells cells′ Nothing = (cells′ ≡ cells) × ((z : ℕ) (Y : List ℕ) → Legal maxMembers maxWires marks z Y → ⊥)

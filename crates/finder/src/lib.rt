@@ -10,17 +10,19 @@ ghost use Rattle.finder.specs.Search.{Searched};
 pub mod members;
 pub mod scan;
 
+use circuit::cells::part;
 use circuit::faults::lent_fault;
 use circuit::limits::MOVE_CELLS;
+use circuit::limits::Mark;
+use circuit::limits::MoveCell;
 use circuit::limits::PARITIES;
 use circuit::limits::Parity;
+use circuit::table_faults::marks_call_fault;
 use columns::table::products;
-use kernel::Offered;
 use members::enough;
 use members::gather;
+use moves::Sought;
 use scan::scan_pairs;
-use weights::faults::call_fault;
-use weights::faults::marks_fault;
 
 pub enum Finding {
     // The cells lent hold a legal move.
@@ -32,11 +34,10 @@ pub enum Finding {
 }
 
 // Finds a legal move for the marks of an odd set and writes its cells. Where it finds none, and on refusal, the cells stay as they were.
-pub fn find(n: usize, marks: &[u8], cells: &mut [u8]) -> Finding
+pub fn find(n: usize, marks: &[Mark], cells: &mut [MoveCell]) -> Finding
     ensures { λ r. ⌜ FindMove n (now (marks .entry)) (now (cells .entry)) (now (cells .exit)) r ⌝ }
 {
-    let lent = lent_fault(cells.len(), MOVE_CELLS);
-    let fault = call_fault(n, lent, marks_fault(n, marks));
+    let fault = marks_call_fault(n, lent_fault(cells.len(), MOVE_CELLS), marks);
     if fault != 0 {
         return Finding::Refused {
             number: fault,
@@ -44,15 +45,15 @@ pub fn find(n: usize, marks: &[u8], cells: &mut [u8]) -> Finding
         };
     }
     match search(marks, cells) {
-        Offered::Separating => Finding::Found,
-        Offered::Nothing => Finding::Nothing,
+        Sought::Found => Finding::Found,
+        Sought::Nothing => Finding::Nothing,
     }
 }
 
 // A legal move on all wires, for marks without a fault: the product table is made and the members are gathered once, so that the scan
 // reads the one and goes through the others alone, as many of them as are enough. Internal: the caller has found the marks sound. It is
 // public for the trim, which has proved its marks sound and need not have them judged again before each move.
-pub fn search(marks: &[u8], cells: &mut [u8]) -> Offered
+pub fn search(marks: &[Mark], cells: &mut [MoveCell]) -> Sought
     requires { ⌜ SoundMarks parities maxWires (now marks) ⌝ }
     requires { ⌜ length (now cells) ≡ moveCells ⌝ }
     ensures { λ r. ⌜ Searched (now (marks .entry)) (now (cells .entry)) (now (cells .exit)) r ⌝ }
@@ -61,5 +62,5 @@ pub fn search(marks: &[u8], cells: &mut [u8]) -> Offered
     let mut list = [0 as Parity; PARITIES];
     let count = gather(marks, &mut list);
     let m = enough(count);
-    scan_pairs(&table, &list[..m], cells)
+    scan_pairs(&table, part(&list, 0, m), cells)
 }

@@ -4,13 +4,15 @@ ghost use lib.ListN.{length};
 ghost use Rattle.circuit.specs.Limits.{maxWires, parities};
 ghost use Rattle.circuit.specs.Sound.{SoundMarks};
 ghost use Rattle.finder.specs.Search.{Enough, Gathered};
+use circuit::cells::put_cell;
 use circuit::limits::MAX_MEMBERS;
+use circuit::limits::Mark;
 use circuit::limits::PARITIES;
 use circuit::limits::Parity;
 
 // Lists the members in ascending order, and gives their number. Each parity is put at the end of the list, and stays there where its mark
 // is 1: marks are hard to foresee, so a branch on each would cost more. Internal: the caller has found the marks sound.
-pub fn gather(marks: &[u8], list: &mut [Parity; PARITIES]) -> usize
+pub fn gather(marks: &[Mark], list: &mut [Parity; PARITIES]) -> usize
     requires { ⌜ SoundMarks parities maxWires (now marks) ⌝ }
     requires { ⌜ length (now list) ≡ parities ⌝ }
     ensures { λ r. ⌜ Gathered (now (marks .entry)) (now (list .exit)) r ⌝ }
@@ -18,7 +20,7 @@ pub fn gather(marks: &[u8], list: &mut [Parity; PARITIES]) -> usize
     let mut count: usize = 0;
     let mut p: usize = 0;
     while p < marks.len() {
-        list[count] = p as Parity;
+        put_cell(list, count, p as Parity);
         count += marks[p] as usize;
         p += 1;
     }

@@ -1,6 +1,7 @@
--- From what the slots say of the columns of a and b to legal moves: a column that came down to 0 makes one, and two that were stopped leave none.
+-- From what the slots say of the columns of a and b to legal moves: a column that came down to 0 makes one, and two that were stopped leave
+-- none.
 use mathlib.Core.List.{List}
-use mathlib.Core.Logic.{_⊎_, inl, inr}
+use mathlib.Core.Logic.{_≢_, _⊎_, inl, inr}
 use mathlib.Core.Path.{_∙_, _≡_, refl, subst, sym}
 use Prim.Native.Nat.{_<_, ℕ}
 use native.Mathlib.Nat.{le-refl}
@@ -23,25 +24,26 @@ use Rattle.moves.specs.Log.{LegalCells, asCells}
 use Rattle.moves.specs.Move.{Member}
 use Rattle.moves.specs.Pair.{Other, namedSet}
 use Rattle.moves.specs.Sets.{In}
+use Rattle.moves.specs.declared.Sought.{Sought}
+use Rattle.moves.specs.declared.Sought.the-variants.{Found, Nothing}
 use Rattle.kernel.specs.Answers.{Asked, AskedBoth, Bars, Built, Neither, Offers, Spells}
-use Rattle.kernel.specs.Members.{Members, Pair, Rest, marksOf}
-use Rattle.kernel.specs.declared.Offered.{Offered}
-use Rattle.kernel.specs.declared.Offered.the-variants.{Nothing, Separating}
+use Rattle.kernel.specs.Members.{Members, Others, Pair, marksOf}
 
 -- ---- one column
 
-module _ (z t a v : ℕ) (vec mask : List ℕ) (is : v ≡ kappa maxWires z t a) where
-  pub spells-by : (member cells : List ℕ) (m : ℕ) → Reached vec mask v 0 m → cells ≡ asCells maxMembers z (namedSet parities member m productBits a)
-      → Spells z t a vec mask member cells
-  spells-by member cells m r e = record { m = m; reached = subst (λ (x : ℕ). Reached vec mask x 0 m) is r; is = e }
+module _ {z t a v : ℕ} {vec mask : List ℕ} (is : v ≡ kappa maxWires z t a) where
+  pub spells-by : {member cells : List ℕ} {m : ℕ} → Reached vec mask v 0 m
+      → cells ≡ asCells maxMembers z (namedSet parities member m productBits a) → Spells z t a vec mask member cells
+  spells-by {m} r e = record { m = m; reached = subst (λ (x : ℕ). Reached vec mask x 0 m) is r; is = e }
 
-  pub bars-by : (slot rest m : ℕ) → Stopped productBits vec mask v slot rest m → Bars z t a vec mask
-  bars-by slot rest m s = record { slot = slot; rest = rest; m = m; stopped = subst (λ (x : ℕ). Stopped productBits vec mask x slot rest m) is s }
+  pub bars-by : {slot left m : ℕ} → Stopped productBits vec mask v slot left m → Bars z t a vec mask
+  bars-by {slot} {left} {m} s =
+      record { slot = slot; left = left; m = m; stopped = subst (λ (x : ℕ). Stopped productBits vec mask x slot left m) is s }
 
 -- a was stopped: what holds of b is the answer
 pub asked-after : (z t a b : ℕ) (vec mask member cells cells₁ cells₂ : List ℕ) → Asked z t a vec mask member cells cells₁ Nothing
-    → (r : Offered) → Asked z t b vec mask member cells₁ cells₂ r → AskedBoth z t a b vec mask member cells cells₂ r
-asked-after z t a b vec mask member cells cells₁ cells₂ p Separating s = inr s
+    → (r : Sought) → Asked z t b vec mask member cells₁ cells₂ r → AskedBoth z t a b vec mask member cells cells₂ r
+asked-after z t a b vec mask member cells cells₁ cells₂ p Found s = inr s
 asked-after z t a b vec mask member cells cells₁ cells₂ p Nothing q = (q .0 ∙ p .0, p .1, q .1)
 
 -- ---- the list and its marks
@@ -65,24 +67,43 @@ module _ (ys : List ℕ) (h : Members ys) where
   -- all of them but a and b are all the others
   pub built-others : (a b z t : ℕ) (vec mask member : List ℕ) → Built (length ys) ys a b z t vec mask member
       → Basis productBits (Other parities (marksOf ys) a b) (kappa maxWires z t) vec mask member
-  built-others a b z t vec mask member =
-      basis-same productBits (kappa maxWires z t) (Rest (length ys) ys a b) (Other parities (marksOf ys) a b) vec mask member
-      (λ y r. let i : In y ys = (r .at, r .before, r .is) in record { below = in-below y i; member = in-member y i; not-a = r .not-a; not-b = r .not-b })
-      (λ y o. let i : In y ys = member-in y (o .member) in record { at = i .0; before = i .1; is = i .2; not-a = o .not-a; not-b = o .not-b })
+  built-others a b z t vec mask member built =
+      basis-same productBits (kappa maxWires z t) (Others (length ys) ys a b) (Other parities (marksOf ys) a b) vec mask member to back
+      (built .basis)
+    where
+      to : (y : ℕ) → Others (length ys) ys a b y → Other parities (marksOf ys) a b y
+      to y r =
+          let i : In y ys = (r .at, r .before, r .is) in
+          record { below = in-below y i; member = in-member y i; not-a = r .not-a; not-b = r .not-b }
+
+      back : (y : ℕ) → Other parities (marksOf ys) a b y → Others (length ys) ys a b y
+      back y o =
+          let i : In y ys = member-in y (o .member) in
+          record { at = i .0; before = i .1; is = i .2; not-a = o .not-a; not-b = o .not-b }
 
 -- ---- a pair
 
--- the wire that code takes is one of z
-pub pair-wire : {ys : List ℕ} {a b : ℕ} → Pair ys a b
-    → (trailingZeros maxWires (bitXor a b) < maxWires) × (bit (bitXor a b) (trailingZeros maxWires (bitXor a b)) ≡ 1)
-pair-wire {ys} {a} {b} p =
-    lowest maxWires maxWires (bitXor a b) (le-refl _) (λ e. p .apart (xor-equal a b e))
-    (xor-lt maxWires a b (in-below ys (p .members) a (p .a-in)) (in-below ys (p .members) b (p .b-in)))
+-- both are parities, and so is z, which is not 0
+pub pair-below : {ys : List ℕ} {a b : ℕ} → Pair ys a b → (a < parities) × (b < parities)
+pair-below {ys} {a} {b} p = (in-below ys (p .members) a (p .a-in), in-below ys (p .members) b (p .b-in))
+
+pub pair-z : {ys : List ℕ} {a b : ℕ} → Pair ys a b → (bitXor a b ≢ 0) × (bitXor a b < parities)
+pair-z {a} {b} p = let l = pair-below p in (λ e. p .apart (xor-equal a b e), xor-lt maxWires a b (l .0) (l .1))
 
 module _ {ys : List ℕ} {a b t : ℕ} (p : Pair ys a b) (low : t ≡ trailingZeros maxWires (bitXor a b)) {vec mask member : List ℕ}
     (built : Built (length ys) ys a b (bitXor a b) t vec mask member) where
+  -- the wire that code takes is one of z
   wire : (t < maxWires) × (bit (bitXor a b) t ≡ 1)
-  wire = subst (λ (x : ℕ). (x < maxWires) × (bit (bitXor a b) x ≡ 1)) (sym low) (pair-wire p)
+  wire =
+      let z = pair-z p in
+      subst (λ (x : ℕ). (x < maxWires) × (bit (bitXor a b) x ≡ 1)) (sym low)
+      (lowest maxWires maxWires (bitXor a b) (le-refl _) (z .0) (z .1))
+
+  a-member : Member (marksOf ys) a
+  a-member = in-member ys (p .members) a (p .a-in)
+
+  b-member : Member (marksOf ys) b
+  b-member = in-member ys (p .members) b (p .b-in)
 
   basis : Basis productBits (Other parities (marksOf ys) a b) (kappa maxWires (bitXor a b) t) vec mask member
   basis = built-others ys (p .members) a b (bitXor a b) t vec mask member built
@@ -99,8 +120,8 @@ module _ {ys : List ℕ} {a b t : ℕ} (p : Pair ys a b) (low : t ≡ trailingZe
         Y = namedSet parities member (s .m) productBits a;
         is = s .is;
         legal =
-            found parities maxWires maxMembers (le-refl _) (marksOf ys) (p .members .sound) a b (bitXor a b) t (in-member ys (p .members) a (p .a-in)) (in-member ys (p .members) b (p .b-in)) refl (wire .0) (wire .1)
-            productBits vec mask member basis (s .m) (omega arith) (s .reached);
+            found parities maxWires maxMembers (le-refl _) (marksOf ys) (p .members .sound) a b (bitXor a b) t a-member b-member refl
+            (wire .0) (wire .1) productBits vec mask member basis (s .m) (omega arith) (s .reached);
       }
   legal cells (inr s) =
       record {
@@ -108,21 +129,22 @@ module _ {ys : List ℕ} {a b t : ℕ} (p : Pair ys a b) (low : t ≡ trailingZe
         Y = namedSet parities member (s .m) productBits b;
         is = s .is;
         legal =
-            found parities maxWires maxMembers (le-refl _) (marksOf ys) (p .members .sound) b a (bitXor a b) t (in-member ys (p .members) b (p .b-in)) (in-member ys (p .members) a (p .a-in)) (xor-comm a b) (wire .0)
-            (wire .1) productBits vec mask member turned (s .m) (omega arith) (s .reached);
+            found parities maxWires maxMembers (le-refl _) (marksOf ys) (p .members .sound) b a (bitXor a b) t b-member a-member
+            (xor-comm a b) (wire .0) (wire .1) productBits vec mask member turned (s .m) (omega arith) (s .reached);
       }
 
   neither : Bars (bitXor a b) t a vec mask → Bars (bitXor a b) t b vec mask → Neither (marksOf ys) a b
   neither u v =
       record {
         first =
-            none parities maxWires maxMembers (le-refl _) (marksOf ys) (p .members .sound) a b (bitXor a b) t (in-member ys (p .members) a (p .a-in)) (in-member ys (p .members) b (p .b-in)) refl (wire .0) (wire .1)
-            productBits vec mask member basis (u .slot) (u .rest) (u .m) (u .stopped);
+            none parities maxWires maxMembers (le-refl _) (marksOf ys) (p .members .sound) a b (bitXor a b) t a-member b-member refl
+            (wire .0) (wire .1) productBits vec mask member basis (u .slot) (u .left) (u .m) (u .stopped);
         second =
-            none parities maxWires maxMembers (le-refl _) (marksOf ys) (p .members .sound) b a (bitXor a b) t (in-member ys (p .members) b (p .b-in)) (in-member ys (p .members) a (p .a-in)) (xor-comm a b) (wire .0)
-            (wire .1) productBits vec mask member turned (v .slot) (v .rest) (v .m) (v .stopped);
+            none parities maxWires maxMembers (le-refl _) (marksOf ys) (p .members .sound) b a (bitXor a b) t b-member a-member
+            (xor-comm a b) (wire .0) (wire .1) productBits vec mask member turned (v .slot) (v .left) (v .m) (v .stopped);
       }
 
-  pub offered : (cells cells′ : List ℕ) (r : Offered) → AskedBoth (bitXor a b) t a b vec mask member cells cells′ r → Offers ys a b cells cells′ r
-  offered cells cells′ Separating s = legal cells′ s
+  pub offered : (cells cells′ : List ℕ) (r : Sought) → AskedBoth (bitXor a b) t a b vec mask member cells cells′ r
+      → Offers ys a b cells cells′ r
+  offered cells cells′ Found s = legal cells′ s
   offered cells cells′ Nothing s = (s .0, neither (s .1) (s .2))

@@ -1,3 +1,3 @@
-pub mod Rests
+pub mod Others
 pub mod Spelled
 pub mod Answered

@@ -5,13 +5,14 @@ use mathlib.Core.Path.{_≡_}
 use Prim.Native.Nat.{ℕ}
 use lib.ListN.{replicate}
 use Rattle.circuit.specs.Limits.{maxMembers, maxWires, parities, productBits}
+use Rattle.echelon.specs.Slots.{SlotMembers}
 use Rattle.gf2.specs.Echelon.{Basis, Reached, Stopped}
 use Rattle.moves.specs.Kappa.{kappa}
 use Rattle.moves.specs.Log.{LegalCells, asCells}
 use Rattle.moves.specs.Pair.{Offer, namedSet}
-use Rattle.kernel.specs.Members.{Rest, marksOf}
-use Rattle.kernel.specs.declared.Offered.{Offered}
-use Rattle.kernel.specs.declared.Offered.the-variants.{Nothing, Separating}
+use Rattle.moves.specs.declared.Sought.{Sought}
+use Rattle.moves.specs.declared.Sought.the-variants.{Found, Nothing}
+use Rattle.kernel.specs.Members.{Others, marksOf}
 
 -- tables of empty slots
 pub record Empty (vec mask member : List ℕ) : Type 0 where
@@ -20,8 +21,9 @@ pub record Empty (vec mask member : List ℕ) : Type 0 where
   pub members : member ≡ replicate productBits 0
 
 -- the columns of the first k members but a and b are in the slots
-abbrev pub Built : ℕ → List ℕ → ℕ → ℕ → ℕ → ℕ → List ℕ → List ℕ → List ℕ → Type 0
-Built k ys a b z t vec mask member = Basis productBits (Rest k ys a b) (kappa maxWires z t) vec mask member
+pub record Built (k : ℕ) (ys : List ℕ) (a b z t : ℕ) (vec mask member : List ℕ) : Type 0 where
+  pub basis : Basis productBits (Others k ys a b) (kappa maxWires z t) vec mask member
+  pub members : SlotMembers member
 
 -- the column of a came down to 0, and the cells are those of z and the set that its mask spells with a
 pub record Spells (z t a : ℕ) (vec mask member cells : List ℕ) : Type 0 where
@@ -32,18 +34,18 @@ pub record Spells (z t a : ℕ) (vec mask member cells : List ℕ) : Type 0 wher
 -- the column of a was stopped
 pub record Bars (z t a : ℕ) (vec mask : List ℕ) : Type 0 where
   pub slot : ℕ
-  pub rest : ℕ
+  pub left : ℕ
   pub m : ℕ
-  pub stopped : Stopped productBits vec mask (kappa maxWires z t a) slot rest m
+  pub stopped : Stopped productBits vec mask (kappa maxWires z t a) slot left m
 
 -- `ask`: for one of the two
-abbrev pub Asked : ℕ → ℕ → ℕ → List ℕ → List ℕ → List ℕ → List ℕ → List ℕ → Offered → Type 0
-Asked z t a vec mask member cells cells′ Separating = Spells z t a vec mask member cells′
+abbrev pub Asked : ℕ → ℕ → ℕ → List ℕ → List ℕ → List ℕ → List ℕ → List ℕ → Sought → Type 0
+Asked z t a vec mask member cells cells′ Found = Spells z t a vec mask member cells′
 Asked z t a vec mask member cells cells′ Nothing = (cells′ ≡ cells) × Bars z t a vec mask
 
 -- `both`: for one of them after the other
-abbrev pub AskedBoth : ℕ → ℕ → ℕ → ℕ → List ℕ → List ℕ → List ℕ → List ℕ → List ℕ → Offered → Type 0
-AskedBoth z t a b vec mask member cells cells′ Separating = Spells z t a vec mask member cells′ ⊎ Spells z t b vec mask member cells′
+abbrev pub AskedBoth : ℕ → ℕ → ℕ → ℕ → List ℕ → List ℕ → List ℕ → List ℕ → List ℕ → Sought → Type 0
+AskedBoth z t a b vec mask member cells cells′ Found = Spells z t a vec mask member cells′ ⊎ Spells z t b vec mask member cells′
 AskedBoth z t a b vec mask member cells cells′ Nothing = (cells′ ≡ cells) × Bars z t a vec mask × Bars z t b vec mask
 
 -- no legal move has one of the two in Y and the other not
@@ -52,6 +54,6 @@ pub record Neither (marks : List ℕ) (a b : ℕ) : Type 0 where
   pub second : Offer maxMembers maxWires marks b a → ⊥
 
 -- `offer`: a legal move is written, or neither way round gives one
-abbrev pub Offers : List ℕ → ℕ → ℕ → List ℕ → List ℕ → Offered → Type 0
-Offers ys a b cells cells′ Separating = LegalCells maxMembers maxWires (marksOf ys) cells′
+abbrev pub Offers : List ℕ → ℕ → ℕ → List ℕ → List ℕ → Sought → Type 0
+Offers ys a b cells cells′ Found = LegalCells maxMembers maxWires (marksOf ys) cells′
 Offers ys a b cells cells′ Nothing = (cells′ ≡ cells) × Neither (marksOf ys) a b

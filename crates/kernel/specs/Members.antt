@@ -29,7 +29,7 @@ pub record Pair (ys : List ℕ) (a b : ℕ) : Type 0 where
   pub apart : a ≢ b
 
 -- y is one of the first k of them, other than a and b
-pub record Rest (k : ℕ) (ys : List ℕ) (a b y : ℕ) : Type 0 where
+pub record Others (k : ℕ) (ys : List ℕ) (a b y : ℕ) : Type 0 where
   pub at : ℕ
   pub before : at < k
   pub is : getD ys at 0 ≡ y

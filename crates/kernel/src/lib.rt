@@ -1,9 +1,9 @@
-// The finder's kernel: whether two members a and b of an odd set offer a separating set, one of the two in it and the other not, that makes a legal
-// move with z = a ^ b (document 01, "Legal moves"). It eliminates columns over the product table. Internal: no entry for users.
+// The finder's kernel: whether two members a and b of an odd set offer a separating set, one of the two in it and the other not, that makes
+// a legal move with z = a ^ b (document 01, "Legal moves"). It eliminates columns over the product table. Internal: no entry for users.
 ghost use mathlib.Core.Path.{_≡_};
 ghost use Prim.Native.Nat.{_<_};
 ghost use lib.ListN.{length};
-ghost use Rattle.circuit.specs.Limits.{maxWires, moveCells};
+ghost use Rattle.circuit.specs.Limits.{maxWires, moveCells, parities};
 ghost use Rattle.columns.specs.Table.{ProductTable};
 ghost use Rattle.echelon.specs.Slots.{Slots};
 ghost use Rattle.kernel.specs.Answers.{Asked, AskedBoth, Offers};
@@ -13,6 +13,7 @@ pub mod basis;
 pub mod spelling;
 
 use basis::build;
+use circuit::limits::MoveCell;
 use circuit::limits::PARITIES;
 use circuit::limits::PRODUCT_BITS;
 use circuit::limits::Parity;
@@ -20,23 +21,17 @@ use circuit::parity::lowest;
 use columns::column;
 use echelon::Reduced;
 use echelon::reduce;
+use moves::Sought;
 use spelling::write_move;
 
-pub enum Offered {
-    // The cells of a legal move are written.
-    Separating,
-    // There is none, either way round, and nothing is written.
-    Nothing,
-}
-
-// What members a and b offer. One basis serves for both ways round.
+// Whether members a and b offer a legal move: its cells are written, or there is none, either way round. One basis serves for both ways.
 pub fn offer(
     products: &[u64; PARITIES],
     ys: &[Parity],
     a: Parity,
     b: Parity,
-    cells: &mut [u8],
-) -> Offered
+    cells: &mut [MoveCell],
+) -> Sought
     requires { ⌜ ProductTable (now products) ⌝ }
     requires { ⌜ Pair (now ys) a b ⌝ }
     requires { ⌜ length (now cells) ≡ moveCells ⌝ }
@@ -61,17 +56,19 @@ fn both(
     vec: &[u64; PRODUCT_BITS],
     mask: &[u64; PRODUCT_BITS],
     member: &[Parity; PRODUCT_BITS],
-    cells: &mut [u8],
-) -> Offered
+    cells: &mut [MoveCell],
+) -> Sought
     requires { ⌜ ProductTable (now products) ⌝ }
-    requires { ⌜ t < maxWires ⌝ }
+    requires { ⌜ (t < maxWires) × (z < parities) ⌝ }
+    requires { ⌜ (a < parities) × (b < parities) ⌝ }
     requires { ⌜ Slots (now vec) (now mask) (now member) ⌝ }
     requires { ⌜ length (now cells) ≡ moveCells ⌝ }
-    ensures { λ r. ⌜ AskedBoth z t a b (now (vec .entry)) (now (mask .entry)) (now (member .entry)) (now (cells .entry)) (now (cells .exit)) r ⌝ }
+    ensures { λ r. ⌜ AskedBoth z t a b (now (vec .entry)) (now (mask .entry)) (now (member .entry))
+        (now (cells .entry)) (now (cells .exit)) r ⌝ }
 {
     match ask(products, z, t, a, vec, mask, member, cells) {
-        Offered::Separating => Offered::Separating,
-        Offered::Nothing => ask(products, z, t, b, vec, mask, member, cells),
+        Sought::Found => Sought::Found,
+        Sought::Nothing => ask(products, z, t, b, vec, mask, member, cells),
     }
 }
 
@@ -84,10 +81,11 @@ fn ask(
     vec: &[u64; PRODUCT_BITS],
     mask: &[u64; PRODUCT_BITS],
     member: &[Parity; PRODUCT_BITS],
-    cells: &mut [u8],
-) -> Offered
+    cells: &mut [MoveCell],
+) -> Sought
     requires { ⌜ ProductTable (now products) ⌝ }
-    requires { ⌜ t < maxWires ⌝ }
+    requires { ⌜ (t < maxWires) × (z < parities) ⌝ }
+    requires { ⌜ a < parities ⌝ }
     requires { ⌜ Slots (now vec) (now mask) (now member) ⌝ }
     requires { ⌜ length (now cells) ≡ moveCells ⌝ }
     ensures { λ r. ⌜ Asked z t a (now (vec .entry)) (now (mask .entry)) (now (member .entry)) (now (cells .entry)) (now (cells .exit)) r ⌝ }
@@ -95,12 +93,12 @@ fn ask(
     match reduce(vec, mask, column(products, z, t, a)) {
         Reduced::Dependent { mask: m } => {
             write_move(z, a, m, member, cells);
-            Offered::Separating
+            Sought::Found
         }
         Reduced::Independent {
             slot: _,
-            rest: _,
+            left: _,
             mask: _,
-        } => Offered::Nothing,
+        } => Sought::Nothing,
     }
 }

@@ -8,65 +8,57 @@ use Rattle.echelon.proofs.Slots.{puts-none, puts-slot}
 use Rattle.echelon.proofs.insert.Statement.{statement}
 use Rattle.echelon.proofs.insert.Tie as tie
 
-reduce-requires : tie.Need-reduce-requires
-reduce-requires c κs = search needs
+-- the entry, seen from the place where `reduce` has found an empty slot
+abbrev entry : tie.After-slot → tie.Start
+entry f = f .before .before .before .before .before
 
-enum-told : tie.Need-enum-told
-enum-told c = search needs
-
-enum-known-slot : tie.Need-enum-known-slot
-enum-known-slot c = search needs
-
--- what `reduce` said where it found an empty slot
-stopped : (c : tie.After-known-told)
-    → Stopped productBits (now (c .before .before .before .before .before .before .args .vec)) (now (c .before .before .before .before .before .before .args .mask))
-    (c .before .before .before .before .before .before .args .v) (c .before .slot .given .0 .0) (c .before .slot .given .0 .1 .0) (c .before .slot .given .0 .1 .1 .0)
-stopped c = rw (c .before .slot .given .1) at (c .before .before .before .reduce .ensures)
+-- what it said there
+stopped : (f : tie.After-slot)
+    → Stopped productBits (now (entry f .args .vec)) (now (entry f .args .mask)) (entry f .args .v) (f .slot .given .0 .0)
+    (f .slot .given .0 .1 .0) (f .slot .given .0 .1 .1 .0)
+stopped f = let r : tie.After-reduce = search in rw (f .slot .given .1) at (r .reduce .ensures)
 
 mul-vec : tie.Need-mul-vec
-mul-vec c = record { fits = omega (arith, stopped c .slot) }
+mul-vec c = record { fits = omega (arith, stopped (search) .slot) }
 
 element-write-vec : tie.Need-element-write-vec
-element-write-vec c = omega (arith, stopped c .slot)
+element-write-vec c = omega (arith, stopped (search) .slot)
 
 shl-mask : tie.Need-shl-mask
-shl-mask c = omega (arith, stopped c .slot)
+shl-mask c = omega (arith, stopped (search) .slot)
 
 mul-mask : tie.Need-mul-mask
-mul-mask c = record { fits = omega (arith, stopped c .slot) }
+mul-mask c = record { fits = omega (arith, stopped (search) .slot) }
 
 element-write-mask : tie.Need-element-write-mask
-element-write-mask c = omega (arith, stopped c .slot)
+element-write-mask c = omega (arith, stopped (search) .slot)
 
-element-write-member : tie.Need-element-write-member
-element-write-member c = omega (arith, stopped c .slot)
+put-cell-requires : tie.Need-put-cell-requires
+put-cell-requires c κs = let s : tie.Start = search in omega (arith, stopped (search) .slot, s .pre .0 .members .long)
 
 returns : tie.Need-returns
 returns c =
-    let start : tie.Start = search in
-    let a = start .args in
-    puts-none (a .y) (a .v) (now (a .vec)) (now (a .mask)) (now (a .member)) _ (rw (c .enum-told .given .1) at (c .before .before .reduce .ensures))
+    let r : tie.After-reduce = search in
+    let s : tie.Start = search in
+    puts-none (s .pre .0) (rw (c .enum-told .given .1) at (r .reduce .ensures))
 
 returns-2 : tie.Need-returns-2
 returns-2 c =
-    let start : tie.Start = search in
-    let s = start in
-    let a = s .args in
-    let t = c .before .slot .given .0 in
-    puts-slot (a .y) (a .v) (now (a .vec)) (now (a .mask)) (now (a .member)) (t .0) (t .1 .0) (t .1 .1 .0) (s .pre .0) (stopped c)
+    let s : tie.Start = search in
+    puts-slot (s .pre .0) (s .pre .1 .0) (stopped (search)) (c .put-cell .ensures)
 
 pub insert-spec : {M : Type 1} → statement M
 insert-spec =
     tie.close
     (tie.spec
-    reduce-requires
-    enum-told
-    enum-known-slot
+    (λ c κs. search needs)
+    (λ c. search needs)
+    (λ c. search needs)
     mul-vec
     element-write-vec
     shl-mask
     mul-mask
     element-write-mask
-    element-write-member
+    put-cell-requires
     returns
     returns-2)

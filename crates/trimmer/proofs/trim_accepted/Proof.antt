@@ -28,8 +28,7 @@ weights-for-requires : tie.Need-weights-for-requires
 weights-for-requires c κs =
     let m : tie.After-make-moves = search in
     let o : tie.After-odd-marks = search in
-    let t : tie.After-read-gates = search in
-    (
+    let t : tie.After-read-gates = search in (
       sound-weights (is-read t),
       marked-last (record { marked = record { read = is-read t; odd = o .odd-marks .ensures }; all = m .make-moves .ensures }),
     )

@@ -1,16 +1,14 @@
 -- The basis of the members passed so far.
 use mathlib.Core.Logic.{inl, inr}
-use mathlib.Core.Path.{_≡_, sym}
-use Prim.Native.Nat.{_-_, _≤_}
+use mathlib.Core.Path.{_≡_}
+use Prim.Native.Nat.{_-_, _<_, _≤_}
 use native.Mathlib.Omega.{arith}
 use lib.ListN.{length}
 use borrow.Author.Needs.{needs}
 use denote.Ref.{now}
-use Rattle.circuit.specs.Limits.{maxWires, productBits}
-use Rattle.kernel.proofs.Rests.{built-slots, rest-more, rest-none, rest-skip}
+use Rattle.circuit.specs.Limits.{parities}
+use Rattle.kernel.proofs.Others.{built-more, built-none, built-skip, built-slots}
 use Rattle.kernel.specs.Answers.{Built}
-use Rattle.kernel.specs.Members.{Rest}
-use Rattle.moves.specs.Kappa.{kappa}
 use Rattle.kernel.proofs.basis.build.Statement.{statement}
 use Rattle.kernel.proofs.basis.build.Tie as tie
 
@@ -21,77 +19,56 @@ abbrev μ-loop : tie.MeasureT-loop
 μ-loop products ys a b z t vec₀ mask₀ member₀ i₀ vec mask member i = length ys - i
 
 loop-holds : tie.Need-loop-holds Inv-loop μ-loop
-loop-holds c =
-    let a = c .before .args in
-    let e = c .before .pre .1 .1 in
-    (search needs, rest-none productBits (kappa maxWires (a .z) (a .t)) (now (a .ys)) (a .a) (a .b) (now (a .vec)) (now (a .mask)) (now (a .member)) (e .vecs) (e .masks) (e .members))
+loop-holds c = let s : tie.Start Inv-loop μ-loop = search in (search needs, built-none (s .pre .1 .1 .1))
 
-shared-slice-read-y : tie.Need-shared-slice-read-y Inv-loop μ-loop
-shared-slice-read-y c = search needs
-
-add-i : tie.Need-add-i Inv-loop μ-loop
-add-i c = search needs
+-- the member of the turn is a parity
+parity : (p : tie.After-cell-at Inv-loop μ-loop) → p .cell-at .result < parities
+parity p =
+    let at : tie.At-loop Inv-loop μ-loop = search in
+    let s : tie.Start Inv-loop μ-loop = search in
+    omega (arith, p .cell-at .ensures, s .pre .1 .0 (at .loop .i) (omega arith))
 
 column-requires : tie.Need-column-requires Inv-loop μ-loop
-column-requires c κs = search needs
+column-requires c κs =
+    let s : tie.Start Inv-loop μ-loop = search in
+    (s .pre .0, (s .pre .1 .1 .0 .0, s .pre .1 .1 .0 .1, parity (search)))
 
 insert-requires : tie.Need-insert-requires Inv-loop μ-loop
 insert-requires c κs =
-    let after-column : tie.After-column Inv-loop μ-loop = search in
-    let at-loop : tie.At-loop Inv-loop μ-loop = search in
-    let start : tie.Start Inv-loop μ-loop = search in
-    let at = at-loop .loop in
-    let a = start .args in
-    (built-slots (kappa maxWires (a .z) (a .t)) (Rest (at .i) (now (a .ys)) (a .a) (a .b)) (at .vec) (at .mask) (at .member) (at .inv .1), after-column .column .ensures .1)
-
-loop-less : tie.Need-loop-less Inv-loop μ-loop
-loop-less c = search needs
+    let k : tie.After-column Inv-loop μ-loop = search in
+    let at : tie.At-loop Inv-loop μ-loop = search in
+    (built-slots (at .loop .inv .1), (parity (search), k .column .ensures .1))
 
 loop-again : tie.Need-loop-again Inv-loop μ-loop
 loop-again c =
-    let after-column : tie.After-column Inv-loop μ-loop = search in
-    let then2 : tie.Then2 Inv-loop μ-loop = search in
-    let then1 : tie.Then1 Inv-loop μ-loop = search in
-    let at-loop : tie.At-loop Inv-loop μ-loop = search in
-    let start : tie.Start Inv-loop μ-loop = search in
-    let at = at-loop .loop in
-    let a = start .args in
-    let k = after-column .column in
-    let κ = kappa maxWires (a .z) (a .t) in
-    let l = c .insert .last .1 .1 in (
+    let k : tie.After-column Inv-loop μ-loop = search in
+    let not-b : tie.Then2 Inv-loop μ-loop = search in
+    let not-a : tie.Then1 Inv-loop μ-loop = search in
+    let p : tie.After-cell-at Inv-loop μ-loop = search in
+    let at : tie.At-loop Inv-loop μ-loop = search in (
       search needs,
-      rest-more productBits κ (now (a .ys)) (a .a) (a .b) (at .i) (at .vec) (at .mask) (at .member) (at .inv .1) (l .0) (l .1 .0) (l .1 .1 .0)
-          (then1 .if1 .taken) (then2 .if2 .taken)
-          (c .insert .ensures κ (sym (k .ensures .0)) (at .inv .1 .echelon)),
+      built-more (at .loop .inv .1) (p .cell-at .ensures) (not-a .if1 .taken) (not-b .if2 .taken) (k .column .ensures .0)
+          (c .insert .ensures),
     )
-
-loop-less-2 : tie.Need-loop-less-2 Inv-loop μ-loop
-loop-less-2 c = search needs
 
 loop-again-2 : tie.Need-loop-again-2 Inv-loop μ-loop
 loop-again-2 c =
-    let at-loop : tie.At-loop Inv-loop μ-loop = search in
-    let start : tie.Start Inv-loop μ-loop = search in
-    let at = at-loop .loop in
-    let a = start .args in
-    (search needs, rest-skip productBits (kappa maxWires (a .z) (a .t)) (now (a .ys)) (a .a) (a .b) (at .i) (at .vec) (at .mask) (at .member) (at .inv .1) (inr (c .if2 .left)))
-
-loop-less-3 : tie.Need-loop-less-3 Inv-loop μ-loop
-loop-less-3 c = search needs
+    let p : tie.After-cell-at Inv-loop μ-loop = search in
+    let at : tie.At-loop Inv-loop μ-loop = search in
+    (search needs, built-skip (at .loop .inv .1) (p .cell-at .ensures) (inr (c .if2 .left)))
 
 loop-again-3 : tie.Need-loop-again-3 Inv-loop μ-loop
 loop-again-3 c =
-    let at-loop : tie.At-loop Inv-loop μ-loop = search in
-    let start : tie.Start Inv-loop μ-loop = search in
-    let at = at-loop .loop in
-    let a = start .args in
-    (search needs, rest-skip productBits (kappa maxWires (a .z) (a .t)) (now (a .ys)) (a .a) (a .b) (at .i) (at .vec) (at .mask) (at .member) (at .inv .1) (inl (c .if1 .left)))
+    let p : tie.After-cell-at Inv-loop μ-loop = search in
+    let at : tie.At-loop Inv-loop μ-loop = search in
+    (search needs, built-skip (at .loop .inv .1) (p .cell-at .ensures) (inl (c .if1 .left)))
 
 returns : tie.Need-returns Inv-loop μ-loop
 returns c =
-    let start : tie.Start Inv-loop μ-loop = search in
-    let e : c .before .loop .i ≡ length (now (start .args .ys)) = omega arith in
-    rw (← e) (c .before .loop .inv .1)
+    let at : tie.At-loop Inv-loop μ-loop = search in
+    let s : tie.Start Inv-loop μ-loop = search in
+    let e : at .loop .i ≡ length (now (s .args .ys)) = omega arith in
+    rw (← e) (at .loop .inv .1)
 
 pub build-spec : {M : Type 1} → statement M
 build-spec =
@@ -100,14 +77,14 @@ build-spec =
     Inv-loop
     μ-loop
     loop-holds
-    shared-slice-read-y
-    add-i
+    (λ c κs. search needs)
+    (λ c. search needs)
     column-requires
     insert-requires
-    loop-less
+    (λ c. search needs)
     loop-again
-    loop-less-2
+    (λ c. search needs)
     loop-again-2
-    loop-less-3
+    (λ c. search needs)
     loop-again-3
     returns)

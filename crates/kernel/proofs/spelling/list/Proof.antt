@@ -1,97 +1,99 @@
 -- The cells of the set of those numbers passed so far that are marked.
-use mathlib.Core.Path.{_≡_}
+use mathlib.Core.Path.{_∙_, _≡_, sym}
 use Prim.Native.Nat.{_-_, _<_, _≤_}
 use native.Mathlib.Omega.{arith}
-use lib.ListN.{getD, length}
+use lib.ListN.{getD, length, replicate}
 use borrow.Author.Needs.{needs}
 use denote.Ref.{now}
-use Rattle.circuit.specs.Limits.{maxMembers, parities}
-use Rattle.kernel.proofs.Spelled.{list-none, list-off, list-on, list-room}
-use Rattle.moves.specs.Log.{asCells}
-use Rattle.moves.specs.Sets.{listed}
+use Rattle.circuit.proofs.Filling.{put-long}
+use Rattle.circuit.specs.Limits.{maxMembers, moveCells, parities}
+use Rattle.kernel.proofs.Spelled.{ListedTo, list-none, list-off, list-on, list-room}
 use Rattle.kernel.proofs.spelling.list.Statement.{statement}
 use Rattle.kernel.proofs.spelling.list.Tie as tie
 
 abbrev Inv-loop : tie.InvT-loop
-Inv-loop z set cells₀ p₀ cells p = (p ≤ length set) × (cells ≡ asCells maxMembers z (listed p (λ y. getD set y 0)))
+Inv-loop z set cells₀ p₀ cells p = (p ≤ length set) × (length cells ≡ moveCells) × ListedTo z set p cells
 
 abbrev μ-loop : tie.MeasureT-loop
 μ-loop z set cells₀ p₀ cells p = length set - p
 
-array-write-cells : tie.Need-array-write-cells Inv-loop μ-loop
-array-write-cells c = search needs
-
 loop-holds : tie.Need-loop-holds Inv-loop μ-loop
-loop-holds c = (search needs, list-none (c .args .z) (λ y. getD (now (c .args .set)) y 0))
+loop-holds c =
+    let first : tie.After-put-cell Inv-loop μ-loop = search in
+    let s : tie.Start Inv-loop μ-loop = search in (
+      search needs,
+      put-long (replicate moveCells 0) _ 0 _ (first .put-cell .ensures),
+      list-none (s .args .z) (λ y. getD (now (s .args .set)) y 0) _ (first .put-cell .ensures),
+    )
 
-add-p : tie.Need-add-p Inv-loop μ-loop
-add-p c = search needs
+-- a turn at a number that is marked
+abbrev Marked : Type 0
+Marked = tie.Then1 Inv-loop μ-loop
 
-shared-slice-read-if1 : tie.Need-shared-slice-read-if1 Inv-loop μ-loop
-shared-slice-read-if1 c = search needs
+abbrev head : Marked → tie.At-loop Inv-loop μ-loop
+head m = m .before .before .before
 
--- the parity is a place of the marks; the set so far is not full
-inside : (c : tie.Then1 Inv-loop μ-loop) → c .before .before .before .loop .p < parities
-inside c = omega (arith, c .before .before .before .before .pre .long)
+-- it is a parity, and the set so far is not full
+inside : (m : Marked) → head m .loop .p < parities
+inside m = let s : tie.Start Inv-loop μ-loop = search in omega (arith, s .pre .long)
 
-room : (c : tie.Then1 Inv-loop μ-loop) → getD (c .before .before .before .loop .cells) 1 0 < maxMembers
-room c =
-    let at = c .before .before .before .loop in
-    let s = c .before .before .before .before in
-    list-room (s .args .z) (now (s .args .set)) (s .pre) (at .p) (inside c) (at .cells) (at .inv .1) (c .if1 .taken)
+room : (m : Marked) → getD (head m .loop .cells) 1 0 < maxMembers
+room m =
+    let s : tie.Start Inv-loop μ-loop = search in
+    list-room (s .args .z) (now (s .args .set)) (s .pre) (head m .loop .p) (inside m) (head m .loop .cells) (head m .loop .inv .2)
+    (m .if1 .taken)
 
-array-read-k : tie.Need-array-read-k Inv-loop μ-loop
-array-read-k c = search needs
+-- the number in the set so far
+counted : (k : tie.After-cell-at Inv-loop μ-loop) → k .cell-at .result < maxMembers
+counted k = let m : Marked = search in omega (arith, k .cell-at .ensures, room m)
 
 cast-k : tie.Need-cast-k Inv-loop μ-loop
-cast-k c = record { fits = omega (arith, room c) }
+cast-k c = record { fits = omega (arith, counted c) }
 
-cast-cells : tie.Need-cast-cells Inv-loop μ-loop
-cast-cells c = record { fits = omega (arith, inside c) }
+add-put-cell : tie.Need-add-put-cell Inv-loop μ-loop
+add-put-cell c = record { fits = omega (arith, counted (search)) }
 
-add-cells : tie.Need-add-cells Inv-loop μ-loop
-add-cells c = record { fits = omega (arith, room c) }
+cast-put-cell : tie.Need-cast-put-cell Inv-loop μ-loop
+cast-put-cell c = record { fits = omega (arith, inside (search)) }
 
-array-write-cells-2 : tie.Need-array-write-cells-2 Inv-loop μ-loop
-array-write-cells-2 c = omega (arith, room c)
+put-cell-requires-2 : tie.Need-put-cell-requires-2 Inv-loop μ-loop
+put-cell-requires-2 c κs = omega (arith, counted (search))
 
-add-cells-2 : tie.Need-add-cells-2 Inv-loop μ-loop
-add-cells-2 c = record { fits = omega (arith, room c) }
+add-put-cell-2 : tie.Need-add-put-cell-2 Inv-loop μ-loop
+add-put-cell-2 c = record { fits = omega (arith, counted (search)) }
 
-cast-cells-2 : tie.Need-cast-cells-2 Inv-loop μ-loop
-cast-cells-2 c = record { fits = omega (arith, room c) }
-
-array-write-cells-3 : tie.Need-array-write-cells-3 Inv-loop μ-loop
-array-write-cells-3 c = search needs
-
-loop-less : tie.Need-loop-less Inv-loop μ-loop
-loop-less c = search needs
+cast-put-cell-2 : tie.Need-cast-put-cell-2 Inv-loop μ-loop
+cast-put-cell-2 c = record { fits = omega (arith, counted (search)) }
 
 loop-again : tie.Need-loop-again Inv-loop μ-loop
 loop-again c =
-    let at-loop : tie.At-loop Inv-loop μ-loop = search in
-    let start : tie.Start Inv-loop μ-loop = search in
-    let at = at-loop .loop in
-    let s = start in
-    (search needs, list-on (s .args .z) (now (s .args .set)) (s .pre) (at .p) (inside c) (at .cells) (at .inv .1) (c .if1 .taken))
-
-loop-less-2 : tie.Need-loop-less-2 Inv-loop μ-loop
-loop-less-2 c = search needs
+    let count : tie.After-put-cell3 Inv-loop μ-loop = search in
+    let last : tie.After-put-cell2 Inv-loop μ-loop = search in
+    let k : tie.After-cell-at Inv-loop μ-loop = search in
+    let m : Marked = search in
+    let s : tie.Start Inv-loop μ-loop = search in (
+      search needs,
+      search needs,
+      list-on (s .args .z) (now (s .args .set)) (s .pre) (head m .loop .p) (inside m) (head m .loop .cells) (head m .loop .inv .2) _ _ _
+          (m .if1 .taken) (k .cell-at .ensures) (last .put-cell2 .ensures) (count .put-cell3 .ensures),
+    )
 
 loop-again-2 : tie.Need-loop-again-2 Inv-loop μ-loop
 loop-again-2 c =
-    let at-loop : tie.At-loop Inv-loop μ-loop = search in
-    let start : tie.Start Inv-loop μ-loop = search in
-    let at = at-loop .loop in
-    let s = start in
-    (search needs, list-off (s .args .z) (now (s .args .set)) (s .pre) (at .p) (omega (arith, s .pre .long)) (at .cells) (at .inv .1) (c .if1 .left))
+    let at : tie.At-loop Inv-loop μ-loop = search in
+    let s : tie.Start Inv-loop μ-loop = search in (
+      search needs,
+      search needs,
+      list-off (s .args .z) (now (s .args .set)) (s .pre) (at .loop .p) (omega (arith, s .pre .long)) (at .loop .cells) (at .loop .inv .2)
+          (c .if1 .left),
+    )
 
 returns : tie.Need-returns Inv-loop μ-loop
 returns c =
-    let at = c .before .loop in
-    let s = c .before .before in
-    let e : at .p ≡ parities = omega (arith, s .pre .long) in
-    rw e at (at .inv .1)
+    let at : tie.At-loop Inv-loop μ-loop = search in
+    let s : tie.Start Inv-loop μ-loop = search in
+    let e : at .loop .p ≡ parities = omega (arith, s .pre .long) in
+    rw e at (at .loop .inv .2)
 
 pub list-spec : {M : Type 1} → statement M
 list-spec =
@@ -99,20 +101,24 @@ list-spec =
     (tie.spec
     Inv-loop
     μ-loop
-    array-write-cells
+    (λ c. search needs)
+    (λ c κs. search needs)
     loop-holds
-    add-p
-    shared-slice-read-if1
-    array-read-k
+    (λ c. search needs)
+    (λ c. search needs)
+    (λ c. search needs)
+    (λ c κs. search needs)
     cast-k
-    cast-cells
-    add-cells
-    array-write-cells-2
-    add-cells-2
-    cast-cells-2
-    array-write-cells-3
-    loop-less
+    (λ c. search needs)
+    add-put-cell
+    cast-put-cell
+    put-cell-requires-2
+    (λ c. search needs)
+    add-put-cell-2
+    cast-put-cell-2
+    (λ c κs. search needs)
+    (λ c. search needs)
     loop-again
-    loop-less-2
+    (λ c. search needs)
     loop-again-2
     returns)

@@ -1,61 +1,52 @@
 -- The marks that are spelled, with that of a, are few enough to be listed.
 use mathlib.Core.Path.{_∙_, sym}
+use native.Mathlib.Omega.{arith}
 use borrow.Author.Needs.{needs}
 use denote.Ref.{now}
-use Rattle.kernel.proofs.Spelled.{set-cells, set-few}
+use Rattle.circuit.specs.Limits.{productBits}
+use Rattle.kernel.proofs.Spelled.{set-cells, set-few, spell-long}
+use Rattle.kernel.specs.Spelling.{Few}
 use Rattle.kernel.proofs.spelling.write_move.Statement.{statement}
 use Rattle.kernel.proofs.spelling.write_move.Tie as tie
 
-spell-requires : tie.Need-spell-requires
-spell-requires c κs = search needs
+flip-mark-requires : tie.Need-flip-mark-requires
+flip-mark-requires c κs =
+    let w : tie.After-spell = search in
+    let s : tie.Start = search in
+    (spell-long (now (s .args .member)) (s .args .m) productBits (w .spell .result) (w .spell .ensures .is), omega arith)
 
-toggle-requires : tie.Need-toggle-requires
-toggle-requires c κs = search needs
+-- the marks, with that of a
+few : (f : tie.After-flip-mark) → Few (f .flip-mark .last .0)
+few f =
+    let w : tie.After-spell = search in
+    let s : tie.Start = search in
+    set-few (w .spell .ensures) (s .args .a) _ (f .flip-mark .ensures) (s .pre .1 .0)
 
 slice-aggregate-list : tie.Need-slice-aggregate-list
-slice-aggregate-list c =
-    let after-spell : tie.After-spell = search in
-    let start : tie.Start = search in
-    sym (set-few (now (start .args .member)) (start .args .m) (start .args .a) (after-spell .spell .result) (c .before .toggle .last .0) (after-spell .spell .ensures) (c .before .toggle .ensures .0) (c .before .toggle .ensures .1) .long)
+slice-aggregate-list c = sym (few (search) .long)
 
 list-requires : tie.Need-list-requires
-list-requires c κs =
-    let after-spell : tie.After-spell = search in
-    let start : tie.Start = search in
-    set-few (now (start .args .member)) (start .args .m)
-    (start .args .a) (after-spell .spell .result) (c .before .toggle .last .0)
-    (after-spell .spell .ensures) (c .before .toggle .ensures .0) (c .before .toggle .ensures .1)
-
-slice-aggregate-copy-into : tie.Need-slice-aggregate-copy-into
-slice-aggregate-copy-into c = search needs
-
-copy-into-requires : tie.Need-copy-into-requires
-copy-into-requires c κs = search needs
-
-same-length : tie.Need-same-length
-same-length c = search needs
+list-requires c κs = few (search)
 
 returns : tie.Need-returns
 returns c =
-    let after-list : tie.After-list = search in
-    let after-toggle : tie.After-toggle = search in
-    let after-spell : tie.After-spell = search in
-    let start : tie.Start = search in
-    let a = start .args in
-    let s = after-spell .spell in
-    let t = after-toggle .toggle in
-    c .before .before .copy-into .ensures ∙ after-list .list .ensures ∙ set-cells (now (a .member)) (a .m) (a .a) (s .result)
-    (t .last .0) (s .ensures) (t .ensures .0) (a .z)
+    let copied : tie.After-copy-parities = search in
+    let l : tie.After-list = search in
+    let f : tie.After-flip-mark = search in
+    let w : tie.After-spell = search in
+    let s : tie.Start = search in
+    copied .copy-parities .ensures ∙ l .list .ensures ∙ set-cells (w .spell .ensures) (s .args .a) _ (f .flip-mark .ensures) (s .args .z)
 
 pub write-move-spec : {M : Type 1} → statement M
 write-move-spec =
     tie.close
     (tie.spec
-    spell-requires
-    toggle-requires
+    (λ c κs. search needs)
+    (λ c. search needs)
+    flip-mark-requires
     slice-aggregate-list
     list-requires
-    slice-aggregate-copy-into
-    copy-into-requires
-    same-length
+    (λ c. search needs)
+    (λ c κs. search needs)
+    (λ c. search needs)
     returns)
