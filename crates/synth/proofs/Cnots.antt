@@ -11,8 +11,7 @@ use lib.Seq.{getD-set-other, getD-set-same, set-getD, set-set}
 use Rattle.circuit.proofs.Sound.{read-append}
 use Rattle.circuit.specs.Faults.{AllWellFormed}
 use Rattle.circuit.specs.Gate.{kindOf}
-use Rattle.circuit.specs.Lent.{readingLent}
-use Rattle.circuit.specs.Read.{Reading, joinRows, readFrom, readKind}
+use Rattle.circuit.specs.Read.{Reading, joinRows, readFrom, readKind, row, withRows}
 use Rattle.gf2.proofs.Bit.{bit-lt}
 use Rattle.gf2.proofs.BitCounts.{bits-at-most, flip-other, flip-same}
 use Rattle.gf2.proofs.Gather.{gather}
@@ -34,38 +33,40 @@ gather-one : (t k m : ℕ) (rows : List ℕ) → t < length rows → k ≢ t
 gather-one t k m rows h ne =
     let v : ℕ = bitXor (getD rows t 0) (combine m rows) in
     set-set rows t v (bitXor (getD (set rows t v) t 0) (getD (set rows t v) k 0))
-    ∙ ap (set rows t) (ap₂ bitXor (getD-set-same rows t v 0 h) (getD-set-other rows t k v 0 ne) ∙ xor-assoc (getD rows t 0) (combine m rows) (getD rows k 0))
-
-one-reads : (c t k m : ℕ) (w rows : List ℕ) → c < 2 → t < length rows → (c ≡ 1 → k ≢ t)
-    → readFrom (cnotIf c k t) (readingLent w (gather t m rows))
-    ≡ readingLent w (set rows t (bitXor (getD rows t 0) (bitXor (combine m rows) (c * getD rows k 0))))
-unfolding cnotIf readFrom readKind kindOf
-one-reads zero t k m w rows l h ne =
-    ap (λ (y : ℕ). readingLent w (set rows t (bitXor (getD rows t 0) y))) (sym (ap (bitXor (combine m rows)) (zero-mul (getD rows k 0)) ∙ xor-zero-r (combine m rows)))
-one-reads (suc zero) t k m w rows l h ne =
-    ap (readingLent w) (gather-one t k m rows h (ne refl))
-    ∙ ap (λ (y : ℕ). readingLent w (set rows t (bitXor (getD rows t 0) (bitXor (combine m rows) y)))) (sym (one-mul (getD rows k 0)))
-one-reads (suc (suc c)) t k m w rows l h ne = absurd (omega arith)
+    ∙ ap (set rows t)
+    (ap₂ bitXor (getD-set-same rows t v 0 h) (getD-set-other rows t k v 0 ne) ∙ xor-assoc (getD rows t 0) (combine m rows) (getD rows k 0))
 
 -- a wire of q is not t
 apart : (q t k : ℕ) → bit q t ≡ 0 → bit q k ≡ 1 → k ≢ t
 apart q t k off on e = let z : _≡_ {A = ℕ} 1 0 = sym on ∙ ap (bit q) e ∙ off in omega arith
 
-cnots-below : (k q t : ℕ) (w rows : List ℕ) → t < length rows → bit q t ≡ 0
-    → readFrom (cnots k q t) (readingLent w rows) ≡ readingLent w (gather t (q % 2 ^ k) rows)
-unfolding cnots readFrom
-cnots-below zero q t w rows h off =
-    ap (readingLent w) (sym (ap (λ (y : ℕ). set rows t (bitXor (getD rows t 0) y)) (combine-first q rows) ∙ ap (set rows t) (xor-zero-r (getD rows t 0)) ∙ set-getD rows t 0))
-cnots-below (suc k) q t w rows h off =
-    read-append (cnots k q t) (cnotIf (bit q k) k t) (readingLent w rows)
-    ∙ ap (readFrom (cnotIf (bit q k) k t)) (cnots-below k q t w rows h off)
-    ∙ one-reads (bit q k) t k (q % 2 ^ k) w rows (bit-lt q k) h (apart q t k off)
-    ∙ ap (λ (y : ℕ). readingLent w (set rows t (bitXor (getD rows t 0) y))) (sym (combine-next q k rows))
+-- reading goes from r, in which wire t has a row
+module _ (t : ℕ) (r : Reading) (low : t < length (r .rows)) where
+  -- x goes into wire t
+  into : ℕ → Reading
+  into x = withRows (set (r .rows) t (bitXor (row r t) x)) r
 
--- the parities of the wires of q go into wire t; the weights stay
-pub read-cnots : (n q t : ℕ) (w rows : List ℕ) → q < 2 ^ n → t < length rows → bit q t ≡ 0
-    → readFrom (cnots n q t) (readingLent w rows) ≡ readingLent w (gather t q rows)
-read-cnots n q t w rows l h off = cnots-below n q t w rows h off ∙ ap (λ (m : ℕ). readingLent w (gather t m rows)) (mod-eq-of-lt l)
+  one-reads : (c k m : ℕ) → c < 2 → (c ≡ 1 → k ≢ t) → readFrom (cnotIf c k t) (into (combine m (r .rows))) ≡ into (bitXor (combine m (r .rows)) (c * row r k))
+  unfolding into cnotIf readFrom readKind kindOf
+  one-reads zero k m l ne = ap into (sym (ap (bitXor (combine m (r .rows))) (zero-mul (row r k)) ∙ xor-zero-r (combine m (r .rows))))
+  one-reads (suc zero) k m l ne =
+      ap (λ (rows : List ℕ). withRows rows r) (gather-one t k m (r .rows) low (ne refl))
+      ∙ ap (λ (y : ℕ). into (bitXor (combine m (r .rows)) y)) (sym (one-mul (row r k)))
+  one-reads (suc (suc c)) k m l ne = absurd (omega arith)
+
+  cnots-below : (k q : ℕ) → bit q t ≡ 0 → readFrom (cnots k q t) r ≡ into (combine (q % 2 ^ k) (r .rows))
+  unfolding into cnots readFrom
+  cnots-below zero q off =
+      ap (λ (rows : List ℕ). withRows rows r) (sym (ap (set (r .rows) t) (xor-zero-r (row r t)) ∙ set-getD (r .rows) t 0))
+      ∙ ap into (sym (combine-first q (r .rows)))
+  cnots-below (suc k) q off =
+      read-append (cnots k q t) (cnotIf (bit q k) k t) r ∙ ap (readFrom (cnotIf (bit q k) k t)) (cnots-below k q off)
+      ∙ one-reads (bit q k) k (q % 2 ^ k) (bit-lt q k) (apart q t k off) ∙ ap into (sym (combine-next q k (r .rows)))
+
+  -- the parities of the wires of q go into wire t; all else stays
+  pub read-cnots : (n q : ℕ) → q < 2 ^ n → bit q t ≡ 0 → readFrom (cnots n q t) r ≡ withRows (gather t q (r .rows)) r
+  unfolding into
+  read-cnots n q l off = cnots-below n q off ∙ ap (λ (m : ℕ). into (combine m (r .rows))) (mod-eq-of-lt l)
 
 -- ---- how many
 

@@ -1,5 +1,6 @@
 pub mod GateBytes
 pub mod Stores
+pub mod BitTests
 pub mod Lists
 pub mod Cnots
 pub mod Spelled

@@ -1,4 +1,5 @@
--- Bringing masks to 2^i, row by row. The invariant after r rows: the combination that mask i names, of the parities that the wires hold, is row i; and the masks passed are 2^j. Over n and N.
+-- Bringing masks to 2^i, row by row. The invariant after r rows: the combination that mask i names, of the parities that the wires hold, is row i;
+-- and the masks passed are 2^j. Over n and N.
 use mathlib.Core.List.{List, map}
 use mathlib.Core.Logic.{inl, inr, _≢_, _⊎_}
 use mathlib.Core.Path.{ap, ap₂, sym, _∙_, _≡_}
@@ -12,8 +13,7 @@ use lib.Pow.{pow-lt}
 use lib.Seq.{getD-set-other}
 use Rattle.circuit.proofs.Sound.{combine-first-rows, first-rows-beyond, first-sound, length-first, read-append}
 use Rattle.circuit.specs.Faults.{AllWellFormed}
-use Rattle.circuit.specs.Lent.{readingLent}
-use Rattle.circuit.specs.Read.{firstRows, readFrom}
+use Rattle.circuit.specs.Read.{Reading, firstRows, readFrom, withRows}
 use Rattle.gf2.proofs.Bit.{bit-lt, bit-of-zero, bit-pow-other, bit-pow-same, bit-scale, bit-values, bit-xor}
 use Rattle.gf2.proofs.BitCounts.{flip-same}
 use Rattle.gf2.proofs.Gather.{combine-gather, gather}
@@ -25,6 +25,7 @@ use Rattle.gf2.specs.Selection.{Independent, combine}
 use Rattle.gf2.specs.Sum.{sum}
 use Rattle.synth.proofs.Cnots.{fewer-cnots, formed-cnots, length-cnots, read-cnots}
 use Rattle.synth.proofs.Lists.{formed-append}
+use Rattle.synth.proofs.Pivots.{Names}
 use Rattle.synth.specs.Writing.{cnots, filled, lack, nextMasks, recount, rowGates, surplus}
 
 -- ---- the masks after CNOTs
@@ -52,7 +53,8 @@ pub record Going (N n r : ℕ) (wanted masks held : List ℕ) : Type 0 where
   pub free : Independent n held
 
 -- the masks start as the rows wanted, the wires with the first rows
-pub going-start : (N n : ℕ) (wanted : List ℕ) → n ≤ N → length wanted ≡ N → ((i : ℕ) → getD wanted i 0 < 2 ^ n) → Going N n 0 wanted wanted (firstRows N n)
+pub going-start : (N n : ℕ) (wanted : List ℕ) → n ≤ N → length wanted ≡ N → ((i : ℕ) → getD wanted i 0 < 2 ^ n)
+    → Going N n 0 wanted wanted (firstRows N n)
 going-start N n wanted fit wide less =
     record {
       wide = wide;
@@ -65,9 +67,9 @@ going-start N n wanted fit wide less =
     }
 
 -- CNOTs into wire t, not a wire passed, keep it
-gather-keeps : (N n r : ℕ) (wanted masks held : List ℕ) → n ≤ N → Going N n r wanted masks held → (t q : ℕ) → r ≤ t → t < n → q < 2 ^ n → bit q t ≡ 0
-    → Going N n r wanted (recount t q masks) (gather t q held)
-gather-keeps N n r wanted masks held fit h t q lo hi less off =
+gather-keeps : {N n r : ℕ} {wanted masks held : List ℕ} → n ≤ N → Going N n r wanted masks held
+    → (t q : ℕ) → r ≤ t → t < n → q < 2 ^ n → bit q t ≡ 0 → Going N n r wanted (recount t q masks) (gather t q held)
+gather-keeps {N} {n} {r} {wanted} {masks} {held} fit h t q lo hi less off =
     record {
       wide = length-recount t q masks ∙ h .wide;
       tall = length-set held t v ∙ h .tall;
@@ -93,7 +95,8 @@ gather-keeps N n r wanted masks held fit h t q lo hi less off =
 
 -- at most one wire
 bits-one : (n c r : ℕ) → c < 2 → sum n (λ i. bit (c * 2 ^ r) i) ≤ c
-bits-one n zero r h = omega (arith, sum-ext n (λ i. bit (0 * 2 ^ r) i) (λ i. 0) (λ i l. rw (zero-mul (2 ^ r)) (bit-of-zero i)), sum-zero n)
+bits-one n zero r h =
+    omega (arith, sum-ext n (λ i. bit (0 * 2 ^ r) i) (λ i. 0) (λ i l. rw (zero-mul (2 ^ r)) (bit-of-zero i)), sum-zero n)
 bits-one n (suc zero) r h = go (decLt r n)
   where
     go : Dec (r < n) → sum n (λ i. bit (1 * 2 ^ r) i) ≤ 1
@@ -104,124 +107,142 @@ bits-one n (suc zero) r h = go (decLt r n)
           bit-lt (1 * 2 ^ r) r,
         )
     go (no g) =
-        omega (arith, sum-ext n (λ i. bit (1 * 2 ^ r) i) (λ i. 0) (λ i li. rw (one-mul (2 ^ r)) (bit-pow-other r i (omega arith))), sum-zero n)
+        omega (
+          arith,
+          sum-ext n (λ i. bit (1 * 2 ^ r) i) (λ i. 0) (λ i li. rw (one-mul (2 ^ r)) (bit-pow-other r i (omega arith))),
+          sum-zero n,
+        )
 bits-one n (suc (suc c)) r h = absurd (omega arith)
 
-module _ (n r b m : ℕ) (lo : r ≤ b) (hi : b < n) (less : m < 2 ^ n) (named : bit m b ≡ 1) where
+module _ {n r m b : ℕ} (p : Names n r m b) (less : m < 2 ^ n) where
   lack-off : bit (lack r m) b ≡ 0
   lack-off = go (bit-values (bit m r) (bit-lt m r)) (ℕ-discrete r b)
     where
       go : (bit m r ≡ 0) ⊎ (bit m r ≡ 1) → Dec (r ≡ b) → bit (lack r m) b ≡ 0
-      go (inl e) (yes q) = absurd (omega (arith, ap (bit m) q))
+      go (inl e) (yes q) = absurd (omega (arith, ap (bit m) q, p .named))
       go (inl e) (no q) = rw (e, one-mul (2 ^ r)) (bit-pow-other r b q)
       go (inr e) d = rw (e, zero-mul (2 ^ r)) (bit-of-zero b)
 
+  wire : 2 ^ r < 2 ^ n
+  wire = pow-lt (omega (arith, p .from, p .inside))
+
   lack-less : lack r m < 2 ^ n
-  lack-less = scale-lt (1 - bit m r) (2 ^ r) (2 ^ n) (omega arith) (pow-lt (omega arith))
+  lack-less = scale-lt (1 - bit m r) (2 ^ r) (2 ^ n) (omega arith) wire
 
   full : ℕ
   full = carry b (lack r m) m
 
   full-is : full ≡ bitXor m (lack r m)
   unfolding full
-  full-is = rw (named, one-mul (lack r m))
+  full-is = rw (p .named, one-mul (lack r m))
 
   full-on : bit full r ≡ 1
   full-on =
       ap (λ (x : ℕ). bit x r) full-is ∙ bit-xor m (lack r m) r
-      ∙ ap (λ (x : ℕ). (bit m r + x) % 2) (bit-scale (1 - bit m r) (2 ^ r) r (omega arith) ∙ ap (λ (x : ℕ). (1 - bit m r) * x) (bit-pow-same r))
+      ∙ ap (λ (x : ℕ). (bit m r + x) % 2)
+      (bit-scale (1 - bit m r) (2 ^ r) r (omega arith) ∙ ap (λ (x : ℕ). (1 - bit m r) * x) (bit-pow-same r))
       ∙ omega (arith, bit-lt m r)
 
-  full-less : carry b (lack r m) m < 2 ^ n
+  full-less : full < 2 ^ n
+  unfolding full
   full-less = carry-lt n b (lack r m) m lack-less less
 
-  surplus-off : bit (bitXor (carry b (lack r m) m) (2 ^ r)) r ≡ 0
-  unfolding full
+  surplus-off : bit (bitXor full (2 ^ r)) r ≡ 0
   surplus-off = flip-same full r ∙ ap (λ (c : ℕ). (c + 1) % 2) full-on
 
-  surplus-less : bitXor (carry b (lack r m) m) (2 ^ r) < 2 ^ n
-  surplus-less = xor-lt n (carry b (lack r m) m) (2 ^ r) full-less (pow-lt (omega arith))
+  surplus-less : bitXor full (2 ^ r) < 2 ^ n
+  surplus-less = xor-lt n full (2 ^ r) full-less wire
 
   -- the mask ends as 2 ^ r
-  mask-ends : carry r (bitXor (carry b (lack r m) m) (2 ^ r)) (carry b (lack r m) m) ≡ 2 ^ r
-  unfolding full
+  mask-ends : carry r (bitXor full (2 ^ r)) full ≡ 2 ^ r
   mask-ends =
       rw (full-on, one-mul (bitXor full (2 ^ r)))
       (sym (xor-assoc full full (2 ^ r)) ∙ ap (λ (x : ℕ). bitXor x (2 ^ r)) (xor-self full))
 
 -- ---- from r rows passed to r + 1
 
-module _ (N n r : ℕ) (wanted masks held : List ℕ) (fit : n ≤ N) (h : Going N n r wanted masks held) (b : ℕ) (lo : r ≤ b) (hi : b < n)
-    (named : bit (getD masks r 0) b ≡ 1) where
-  m : ℕ
+-- the rows held between the CNOTs of row r, with pivot b, and after them
+abbrev between : ℕ → ℕ → List ℕ → List ℕ → List ℕ
+between r b masks held = gather b (lack r (getD masks r 0)) held
+
+abbrev pub heldAfter : ℕ → ℕ → List ℕ → List ℕ → List ℕ
+heldAfter r b masks held = gather r (surplus r b masks) (between r b masks held)
+
+module _ {N n r : ℕ} {wanted masks held : List ℕ} (fit : n ≤ N) (h : Going N n r wanted masks held) {b : ℕ} (p : Names n r (getD masks r 0) b) where
+  abbrev m : ℕ
   m = getD masks r 0
 
-  m-less : m < 2 ^ n
-  unfolding m
-  m-less = h .small r (omega arith)
+  inside : r < n
+  inside = omega (arith, p .from, p .inside)
+
+  less : m < 2 ^ n
+  less = h .small r inside
+
+  off₁ : bit (lack r m) b ≡ 0
+  off₁ = lack-off p less
+
+  less₁ : lack r m < 2 ^ n
+  less₁ = lack-less p less
 
   -- the mask that the second CNOTs go by
-  surplus-is : surplus r b masks ≡ bitXor (carry b (lack r m) m) (2 ^ r)
-  unfolding m
-  surplus-is = ap (λ (x : ℕ). bitXor x (2 ^ r)) (recount-at b (lack r m) r masks)
+  full-at : getD (filled r b masks) r 0 ≡ full p less
+  unfolding full
+  full-at = recount-at b (lack r m) r masks
 
-  off : bit (surplus r b masks) r ≡ 0
-  unfolding m
-  off = ap (λ (x : ℕ). bit x r) surplus-is ∙ surplus-off n r b m lo hi m-less named
+  off₂ : bit (surplus r b masks) r ≡ 0
+  off₂ = rw full-at (surplus-off p less)
 
-  less : surplus r b masks < 2 ^ n
-  unfolding m
-  less = rw surplus-is (surplus-less n r b m lo hi m-less named)
+  less₂ : surplus r b masks < 2 ^ n
+  less₂ = rw full-at (surplus-less p less)
 
-  between : List ℕ
-  between = gather b (lack r (getD masks r 0)) held
+  half : Going N n r wanted (filled r b masks) (between r b masks held)
+  half = gather-keeps fit h b (lack r m) (p .from) (p .inside) less₁ off₁
 
-  pub heldAfter : List ℕ
-  heldAfter = gather r (surplus r b masks) (gather b (lack r (getD masks r 0)) held)
-
-  half : Going N n r wanted (filled r b masks) between
-  unfolding m between
-  half = gather-keeps N n r wanted masks held fit h b (lack r m) lo hi (lack-less n r b m lo hi m-less named) (lack-off n r b m lo hi m-less named)
-
-  pub row-keeps : Going N n (suc r) wanted (nextMasks r b masks) heldAfter
-  unfolding m between heldAfter
+  pub row-keeps : Going N n (suc r) wanted (nextMasks r b masks) (heldAfter r b masks held)
   row-keeps =
-      let g : Going N n r wanted (nextMasks r b masks) heldAfter = gather-keeps N n r wanted (filled r b masks) between fit half r (surplus r b masks) (le-refl r) (omega arith) less off in
-      record { wide = g .wide; tall = g .tall; makes = g .makes; small = g .small; past = λ j l. at g j l (ℕ-discrete j r); beyond = g .beyond; free = g .free }
+      record {
+        wide = g .wide;
+        tall = g .tall;
+        makes = g .makes;
+        small = g .small;
+        past = λ j l. at j l (ℕ-discrete j r);
+        beyond = g .beyond;
+        free = g .free;
+      }
     where
+      g : Going N n r wanted (nextMasks r b masks) (heldAfter r b masks held)
+      g = gather-keeps fit half r (surplus r b masks) (le-refl r) inside less₂ off₂
+
       last : getD (nextMasks r b masks) r 0 ≡ 2 ^ r
-      last =
-          recount-at r (surplus r b masks) r (filled r b masks)
-          ∙ ap₂ (carry r) surplus-is (recount-at b (lack r m) r masks)
-          ∙ mask-ends n r b m lo hi m-less named
+      last = recount-at r (surplus r b masks) r (filled r b masks) ∙ rw full-at (mask-ends p less)
 
-      at : Going N n r wanted (nextMasks r b masks) heldAfter → (j : ℕ) → j < suc r → Dec (j ≡ r) → getD (nextMasks r b masks) j 0 ≡ 2 ^ j
-      at g j l (yes e) = rw e last
-      at g j l (no e) = g .past j (omega arith)
+      at : (j : ℕ) → j < suc r → Dec (j ≡ r) → getD (nextMasks r b masks) j 0 ≡ 2 ^ j
+      at j l (yes e) = rw e last
+      at j l (no e) = g .past j (omega arith)
 
-  pub row-reads : (w : List ℕ) → readFrom (rowGates n r b masks) (readingLent w held) ≡ readingLent w heldAfter
-  unfolding m between heldAfter
-  row-reads w =
-      read-append (cnots n (lack r m) b) (cnots n (surplus r b masks) r) (readingLent w held)
+  -- reading from s, whose rows are held
+  pub row-reads : (s : Reading) → s .rows ≡ held → readFrom (rowGates n r b masks) s ≡ withRows (heldAfter r b masks held) s
+  row-reads s e =
+      let s₁ : Reading = withRows (between r b masks held) s in
+      read-append (cnots n (lack r m) b) (cnots n (surplus r b masks) r) s
       ∙ ap (readFrom (cnots n (surplus r b masks) r))
-      (read-cnots n (lack r m) b w held (lack-less n r b m lo hi m-less named) (omega (arith, h .tall)) (lack-off n r b m lo hi m-less named))
-      ∙ read-cnots n (surplus r b masks) r w between less (omega (arith, half .tall)) off
+      (read-cnots b s (rw e (omega (arith, h .tall, p .inside))) n (lack r m) less₁ off₁
+      ∙ ap (λ (rows : List ℕ). withRows (gather b (lack r m) rows) s) e)
+      ∙ read-cnots r s₁ (omega (arith, half .tall, inside)) n (surplus r b masks) less₂ off₂
 
   pub row-formed : AllWellFormed n (rowGates n r b masks)
-  unfolding m
   row-formed =
       formed-append n (cnots n (lack r m) b) (cnots n (surplus r b masks) r)
-      (formed-cnots n n (lack r m) b (le-refl n) hi (lack-off n r b m lo hi m-less named))
-      (formed-cnots n n (surplus r b masks) r (le-refl n) (omega arith) off)
+      (formed-cnots n n (lack r m) b (le-refl n) (p .inside) off₁)
+      (formed-cnots n n (surplus r b masks) r (le-refl n) inside off₂)
 
   -- at most n gates
   pub row-length : length (rowGates n r b masks) ≤ n
-  unfolding m
   row-length =
       omega (
         arith,
         length-append (cnots n (lack r m) b) (cnots n (surplus r b masks) r),
         length-cnots n (lack r m) b,
         bits-one n (1 - bit m r) r (omega arith),
-        fewer-cnots n (surplus r b masks) r r (omega arith) off,
+        fewer-cnots n (surplus r b masks) r r inside off₂,
       )

@@ -11,8 +11,7 @@ use lib.Pow.{pow-lt, pow-mono}
 use lib.Seq.{getD-set-same}
 use Rattle.circuit.proofs.Sound.{combine-first-rows, first-row, length-first, read-append}
 use Rattle.circuit.specs.Faults.{AllWellFormed}
-use Rattle.circuit.specs.Lent.{readingLent}
-use Rattle.circuit.specs.Read.{firstRows, readFrom}
+use Rattle.circuit.specs.Read.{Reading, firstRows, readFrom, row, withRows, withWeights}
 use Rattle.gf2.proofs.BitCounts.{flip-other, flip-same}
 use Rattle.gf2.proofs.Gather.{gather, gather-twice}
 use Rattle.gf2.proofs.Leading.{bit-inside, bit-lowest}
@@ -28,48 +27,70 @@ use Rattle.synth.proofs.Spelled.{formed-spell, kinds-away, kinds-here, 
 use Rattle.synth.specs.Spelling.{kindsAt, spelling}
 use Rattle.synth.specs.Writing.{around, cnots, lowest, others, spell, writeParity}
 
-module _ (n q t v : ℕ) (less : q < 2 ^ n) (off : bit q t ≡ 0) (w rows : List ℕ) (p : ℕ) (low : t < length rows) (holds : bitXor (getD rows t 0) (combine q rows) ≡ p) where
-  held : List ℕ
-  held = gather t q rows
+-- wire t comes to hold p by CNOTs from the wires of q
+record Brought (n q t p : ℕ) (r : Reading) : Type 0 where
+  less : q < 2 ^ n
+  off : bit q t ≡ 0
+  low : t < length (r .rows)
+  holds : bitXor (row r t) (combine q (r .rows)) ≡ p
 
-  at : getD held t 0 ≡ p
+module _ {n q t p : ℕ} {r : Reading} (b : Brought n q t p r) where
+  -- the reading between the CNOTs
+  held : Reading
+  held = withRows (gather t q (r .rows)) r
+
+  at : row held t ≡ p
   unfolding held
-  at = getD-set-same rows t (bitXor (getD rows t 0) (combine q rows)) 0 low ∙ holds
+  at = getD-set-same (r .rows) t (bitXor (row r t) (combine q (r .rows))) 0 (b .low) ∙ b .holds
 
-  in-between : readFrom (cnots n q t) (readingLent w rows) ≡ readingLent w held
+  in-between : readFrom (cnots n q t) r ≡ held
   unfolding held
-  in-between = read-cnots n q t w rows less low off
+  in-between = read-cnots t r (b .low) n q (b .less) (b .off)
 
-  pub read-around : v < 7 → p < length w → readFrom (around n q t (suc v)) (readingLent w rows) ≡ readingLent (addAt 8 w p (suc v)) rows
-  unfolding around held
-  read-around small l =
-      read-append (cnots n q t) (spell (suc v) t ++ cnots n q t) (readingLent w rows)
-      ∙ ap (readFrom (spell (suc v) t ++ cnots n q t)) in-between
-      ∙ read-append (spell (suc v) t) (cnots n q t) (readingLent w held)
-      ∙ ap (readFrom (cnots n q t)) (read-spell v t w held small (rw at l) ∙ ap (λ (c : ℕ). readingLent (addAt 8 w c (suc v)) held) at)
-      ∙ read-cnots n q t (addAt 8 w p (suc v)) held less (rw (length-set rows t (bitXor (getD rows t 0) (combine q rows))) low) off
-      ∙ ap (readingLent (addAt 8 w p (suc v))) (gather-twice t q off rows low)
+  -- v is added at p
+  added : ℕ → Reading → Reading
+  added v s = withWeights (addAt 8 (s .weights) p v) s
 
-  -- only the spelled gates add phases, and they do at p
-  kinds-around : (s : ℕ) → kindsAt s (around n q t v) (readingLent w rows) ≡ kindsAt s (spell v t) (readingLent w held)
-  unfolding around
-  kinds-around s =
-      kinds-append s (cnots n q t) (spell v t ++ cnots n q t) (readingLent w rows)
-      ∙ rw (kinds-cnots s n q t (readingLent w rows), in-between, kinds-append s (spell v t) (cnots n q t) (readingLent w held), kinds-cnots s n q t (readFrom (spell v t) (readingLent w held)))
-      (append-nil (kindsAt s (spell v t) (readingLent w held)))
+  undone : (v : ℕ) → readFrom (cnots n q t) (added v held) ≡ added v r
+  unfolding held added
+  undone v =
+      read-cnots t (added v held) (rw (length-set (r .rows) t (bitXor (row r t) (combine q (r .rows)))) (b .low)) n q (b .less) (b .off)
+      ∙ ap (λ (rows : List ℕ). withRows rows (added v held)) (gather-twice t q (b .off) (r .rows) (b .low))
 
-  pub around-here : v < 8 → kindsAt p (around n q t v) (readingLent w rows) ≡ spelling v
-  around-here small = kinds-around p ∙ kinds-here p v t small w held at
+  read-around : (v : ℕ) → v < 7 → p < length (r .weights) → readFrom (around n q t (suc v)) r ≡ withWeights (addAt 8 (r .weights) p (suc v)) r
+  unfolding around held added
+  read-around v small l =
+      read-append (cnots n q t) (spell (suc v) t ++ cnots n q t) r ∙ ap (readFrom (spell (suc v) t ++ cnots n q t)) in-between
+      ∙ read-append (spell (suc v) t) (cnots n q t) held
+      ∙ ap (readFrom (cnots n q t))
+      (read-spell v t held small (rw at l) ∙ ap (λ (c : ℕ). withWeights (addAt 8 (held .weights) c (suc v)) held) at)
+      ∙ undone (suc v)
 
-  pub around-away : v < 8 → (s : ℕ) → p ≢ s → kindsAt s (around n q t v) (readingLent w rows) ≡ []
-  around-away small s ne = kinds-around s ∙ kinds-away s v t small w held (λ e. ne (sym at ∙ e))
+  module _ (v : ℕ) where
+    -- only the spelled gates add phases, and they do at p
+    kinds-around : (s : ℕ) → kindsAt s (around n q t v) r ≡ kindsAt s (spell v t) held
+    unfolding around
+    kinds-around s =
+        kinds-append s (cnots n q t) (spell v t ++ cnots n q t) r
+        ∙ rw (
+          kinds-cnots s n q t r,
+          in-between,
+          kinds-append s (spell v t) (cnots n q t) held,
+          kinds-cnots s n q t (readFrom (spell v t) held),
+        ) (append-nil (kindsAt s (spell v t) held))
+
+    around-here : v < 8 → kindsAt p (around n q t v) r ≡ spelling v
+    around-here small = kinds-around p ∙ kinds-here p v t small held at
+
+    around-away : v < 8 → (s : ℕ) → p ≢ s → kindsAt s (around n q t v) r ≡ []
+    around-away small s ne = kinds-around s ∙ kinds-away s v t small held (λ e. ne (sym at ∙ e))
 
 -- the lowest wire of p, and its other wires
 module _ (N n p : ℕ) (fit : n ≤ N) (some : p ≢ 0) (less : p < 2 ^ n) where
   on : bit p (lowest N p) ≡ 1
   on = let m : 2 ^ n ≤ 2 ^ N = pow-mono fit in bit-lowest N p some (omega arith)
 
-  pub lowest-inside : lowest N p < n
+  lowest-inside : lowest N p < n
   lowest-inside = bit-inside n p (lowest N p) less on
 
   others-off : bit (others N p) (lowest N p) ≡ 0
@@ -89,29 +110,34 @@ module _ (N n p : ℕ) (fit : n ≤ N) (some : p ≢ 0) (less : p < 2 ^ n) where
       )
 
   -- from the first rows, the lowest wire comes to hold p
-  low : lowest N p < length (firstRows N n)
-  low = rw (length-first N n) (omega (arith, lowest-inside))
+  module _ (r : Reading) (first : r .rows ≡ firstRows N n) where
+    brought : Brought n (others N p) (lowest N p) p r
+    brought =
+        record {
+          less = others-less;
+          off = others-off;
+          low = rw (first, length-first N n) (omega (arith, lowest-inside));
+          holds =
+              rw first
+              (ap₂ bitXor (first-row N n (lowest N p) lowest-inside fit) (combine-first-rows N n (others N p) fit others-less)
+              ∙ xor-comm (2 ^ lowest N p) (others N p) ∙ xor-cancel p (2 ^ lowest N p));
+        }
 
-  holds : bitXor (getD (firstRows N n) (lowest N p) 0) (combine (others N p) (firstRows N n)) ≡ p
-  holds =
-      ap₂ bitXor (first-row N n (lowest N p) lowest-inside fit) (combine-first-rows N n (others N p) fit others-less)
-      ∙ xor-comm (2 ^ lowest N p) (others N p) ∙ xor-cancel p (2 ^ lowest N p)
+    -- the rows come back, and v is added at p
+    pub read-parity : (v : ℕ) → v < 7 → p < length (r .weights)
+        → readFrom (writeParity N n p (suc v)) r ≡ withWeights (addAt 8 (r .weights) p (suc v)) r
+    unfolding writeParity
+    read-parity v h l = read-around brought v h l
 
-  -- the first rows again, and v added at p
-  pub read-parity : (v : ℕ) (w : List ℕ) → v < 7 → p < length w
-      → readFrom (writeParity N n p (suc v)) (readingLent w (firstRows N n)) ≡ readingLent (addAt 8 w p (suc v)) (firstRows N n)
-  unfolding writeParity
-  read-parity v w h l = read-around n (others N p) (lowest N p) v others-less others-off w (firstRows N n) p low holds h l
+    pub parity-here : (v : ℕ) → v < 8 → kindsAt p (writeParity N n p v) r ≡ spelling v
+    unfolding writeParity kindsAt spelling
+    parity-here zero h = refl
+    parity-here (suc v) h = around-here brought (suc v) h
 
-  pub parity-here : (v : ℕ) (w : List ℕ) → v < 8 → kindsAt p (writeParity N n p v) (readingLent w (firstRows N n)) ≡ spelling v
-  unfolding writeParity kindsAt spelling
-  parity-here zero w h = refl
-  parity-here (suc v) w h = around-here n (others N p) (lowest N p) (suc v) others-less others-off w (firstRows N n) p low holds h
-
-  pub parity-away : (v : ℕ) (w : List ℕ) → v < 8 → (s : ℕ) → p ≢ s → kindsAt s (writeParity N n p v) (readingLent w (firstRows N n)) ≡ []
-  unfolding writeParity kindsAt
-  parity-away zero w h s ne = refl
-  parity-away (suc v) w h s ne = around-away n (others N p) (lowest N p) (suc v) others-less others-off w (firstRows N n) p low holds h s ne
+    pub parity-away : (v : ℕ) → v < 8 → (s : ℕ) → p ≢ s → kindsAt s (writeParity N n p v) r ≡ []
+    unfolding writeParity kindsAt
+    parity-away zero h s ne = refl
+    parity-away (suc v) h s ne = around-away brought (suc v) h s ne
 
   pub formed-parity : (v : ℕ) → v < 8 → AllWellFormed n (writeParity N n p v)
   unfolding writeParity around
@@ -120,7 +146,8 @@ module _ (N n p : ℕ) (fit : n ≤ N) (some : p ≢ 0) (less : p < 2 ^ n) where
       let q : ℕ = others N p in
       let t : ℕ = lowest N p in
       let c : AllWellFormed n (cnots n q t) = formed-cnots n n q t (le-refl n) lowest-inside others-off in
-      formed-append n (cnots n q t) (spell (suc v) t ++ cnots n q t) c (formed-append n (spell (suc v) t) (cnots n q t) (formed-spell n (suc v) t h lowest-inside) c)
+      formed-append n (cnots n q t) (spell (suc v) t ++ cnots n q t) c
+      (formed-append n (spell (suc v) t) (cnots n q t) (formed-spell n (suc v) t h lowest-inside) c)
 
   -- at most two gates for each wire of p
   pub length-parity : (v : ℕ) → v < 8 → length (writeParity N n p v) ≤ 2 * sum n (λ i. bit p i)

@@ -37,10 +37,20 @@ pivot-is (suc k) r m = go (bit-values (bit m r) (bit-lt m r)) (pivot-is k (suc r
     clear e x b lo hi (no q) = x .empty b (omega arith) (omega arith)
 
     go : (bit m r ≡ 0) ⊎ (bit m r ≡ 1) → None k (suc r) m ⊎ Some k (suc r) m → None (suc k) r m ⊎ Some (suc k) r m
-    go (inl e) (inl x) = inl (record { at = omega (arith, pivot-miss k r m e, x .at); empty = λ b lo hi. clear e x b lo hi (ℕ-discrete b r) })
+    go (inl e) (inl x) =
+        inl (record { at = omega (arith, pivot-miss k r m e, x .at); empty = λ b lo hi. clear e x b lo hi (ℕ-discrete b r) })
     go (inl e) (inr x) =
-        inr (record { from = omega (arith, pivot-miss k r m e, x .from); to = omega (arith, pivot-miss k r m e, x .to); named = ap (bit m) (pivot-miss k r m e) ∙ x .named })
-    go (inr e) y = inr (record { from = omega (arith, pivot-hit k r m e); to = omega (arith, pivot-hit k r m e); named = ap (bit m) (pivot-hit k r m e) ∙ e })
+        let s = pivot-miss k r m e in
+        inr (record { from = omega (arith, s, x .from); to = omega (arith, s, x .to); named = ap (bit m) s ∙ x .named })
+    go (inr e) y =
+        let s = pivot-hit k r m e in
+        inr (record { from = omega (arith, s); to = omega (arith, s); named = ap (bit m) s ∙ e })
+
+-- mask m names wire b, one from r on and below n
+pub record Names (n r m b : ℕ) : Type 0 where
+  pub from : r ≤ b
+  pub inside : b < n
+  pub named : bit m b ≡ 1
 
 module _ (n r m : ℕ) (inside : r ≤ n) where
   pub pivot-none : n ≤ pivot n r m → (b : ℕ) → r ≤ b → b < n → bit m b ≡ 0
@@ -50,9 +60,9 @@ module _ (n r m : ℕ) (inside : r ≤ n) where
       go (inl x) = x .empty b lo (omega arith)
       go (inr x) = absurd (omega (arith, x .to))
 
-  pub pivot-some : pivot n r m < n → (r ≤ pivot n r m) × (bit m (pivot n r m) ≡ 1)
+  pub pivot-some : pivot n r m < n → Names n r m (pivot n r m)
   pivot-some h = go (pivot-is (n - r) r m)
     where
-      go : None (n - r) r m ⊎ Some (n - r) r m → (r ≤ pivot n r m) × (bit m (pivot n r m) ≡ 1)
+      go : None (n - r) r m ⊎ Some (n - r) r m → Names n r m (pivot n r m)
       go (inl x) = absurd (omega (arith, x .at))
-      go (inr x) = (x .from, x .named)
+      go (inr x) = record { from = x .from; inside = h; named = x .named }

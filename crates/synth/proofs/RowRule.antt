@@ -17,8 +17,8 @@ use Rattle.circuit.specs.Faults.{orElse, rowRule}
 use Rattle.circuit.specs.Read.{either}
 use Rattle.circuit.specs.Sound.{SoundRows}
 use Rattle.gf2.specs.Selection.{Independent, combine}
-use Rattle.synth.proofs.RowsWritten.{Dependent}
-use Rattle.synth.specs.Faults.{beyondFault, cancelFault, rowMost, rowsFault}
+use Rattle.synth.proofs.RowsWritten.{Dependent, shape}
+use Rattle.synth.specs.Faults.{Shaped, beyondFault, cancelFault, rowMost, rowsFault}
 
 -- ---- a bit or row beyond n
 
@@ -31,7 +31,8 @@ module _ (n i : ℕ) where
 
 -- one turn of the loop, and its end
 module _ (n i : ℕ) (rows : List ℕ) where
-  pub row-good : i < length rows → getD rows i 0 ≤ rowMost n i → beyondFault n (i + 1) (drop (i + 1) rows) ≡ beyondFault n i (drop i rows)
+  pub row-good : i < length rows → getD rows i 0 ≤ rowMost n i
+      → beyondFault n (i + 1) (drop (i + 1) rows) ≡ beyondFault n i (drop i rows)
   unfolding beyondFault
   row-good h l = rw (add-one i, drop-cons rows i 0 h) (simp (le-leb (getD rows i 0) (rowMost n i) l))
 
@@ -49,11 +50,14 @@ unfolding beyondFault
 beyond-all n i [] e k l = absurd (omega arith)
 beyond-all n i (x ∷ rows) e k l = go (decLe x (rowMost n i)) k l (λ f j h. beyond-all n (suc i) rows f j h)
   where
-    go : Dec (x ≤ rowMost n i) → (k : ℕ) → k < suc (length rows) → (beyondFault n (suc i) rows ≡ 0 → (j : ℕ) → j < length rows → getD rows j 0 ≤ rowMost n (suc i + j))
+    go : Dec (x ≤ rowMost n i) → (k : ℕ) → k < suc (length rows)
+        → (beyondFault n (suc i) rows ≡ 0 → (j : ℕ) → j < length rows → getD rows j 0 ≤ rowMost n (suc i + j))
         → getD (x ∷ rows) k 0 ≤ rowMost n (i + k)
     go (no g) k l r = absurd (omega (arith, simp (lt-leb x (rowMost n i) (omega arith)) at e))
     go (yes g) zero l r = let z : i + 0 ≡ i = omega arith in rw z g
-    go (yes g) (suc j) l r = let z : i + suc j ≡ suc i + j = omega arith in rw z (r (simp (le-leb x (rowMost n i) g) at e) j (omega arith))
+    go (yes g) (suc j) l r =
+        let z : i + suc j ≡ suc i + j = omega arith in
+        rw z (r (simp (le-leb x (rowMost n i) g) at e) j (omega arith))
 
 beyond-none : (n i : ℕ) (rows : List ℕ) → ((k : ℕ) → k < length rows → getD rows k 0 ≤ rowMost n (i + k)) → beyondFault n i rows ≡ 0
 unfolding beyondFault
@@ -61,19 +65,15 @@ beyond-none n i [] h = refl
 beyond-none n i (x ∷ rows) h =
     let z : i + 0 ≡ i = omega arith in
     let g : x ≤ rowMost n i = subst (λ (j : ℕ). x ≤ rowMost n j) z (h 0 (suc-le-suc zero-le)) in
-    rw (le-leb x (rowMost n i) g) (beyond-none n (suc i) rows (λ k l. subst (λ (j : ℕ). getD rows k 0 ≤ rowMost n j) (shift i k) (h (suc k) (suc-le-suc l))))
+    rw (le-leb x (rowMost n i) g)
+    (beyond-none n (suc i) rows (λ k l. subst (λ (j : ℕ). getD rows k 0 ≤ rowMost n j) (shift i k) (h (suc k) (suc-le-suc l))))
   where
     shift : (i k : ℕ) → i + suc k ≡ suc i + k
     shift i k = omega arith
 
--- what is sound of rows but their being invertible
-pub record Shaped (N n : ℕ) (rows : List ℕ) : Type 0 where
-  pub long : length rows ≡ N
-  pub within : (i : ℕ) → getD rows i 0 < 2 ^ n
-  pub beyond : (i : ℕ) → n ≤ i → getD rows i 0 ≡ 0
-
 pub shaped : (N n : ℕ) (rows : List ℕ) → length rows ≡ N → beyondFault n 0 rows ≡ 0 → Shaped N n rows
-shaped N n rows e f = record { long = e; within = λ i. less i (decLt i (length rows)) (decLt i n); beyond = λ i h. none i h (decLt i (length rows)) }
+shaped N n rows e f =
+    record { long = e; within = λ i. less i (decLt i (length rows)) (decLt i n); beyond = λ i h. none i h (decLt i (length rows)) }
   where
     most : (i : ℕ) → i < length rows → getD rows i 0 ≤ rowMost n i
     most i l = subst (λ (j : ℕ). getD rows i 0 ≤ rowMost n j) (zero-add i) (beyond-all n 0 rows f i l)
@@ -88,7 +88,8 @@ shaped N n rows e f = record { long = e; within = λ i. less i (decLt i (length 
     less i (no g) (yes h) = let z : getD rows i 0 ≡ 0 = List·getD-eq-default rows 0 (omega arith) in omega (arith, pow-pos n)
 
 pub shaped-clear : (N n : ℕ) (rows : List ℕ) → Shaped N n rows → beyondFault n 0 rows ≡ 0
-shaped-clear N n rows s = beyond-none n 0 rows (λ i l. subst (λ (j : ℕ). getD rows i 0 ≤ rowMost n j) (sym (zero-add i)) (at i (decLt i n)))
+shaped-clear N n rows s =
+    beyond-none n 0 rows (λ i l. subst (λ (j : ℕ). getD rows i 0 ≤ rowMost n j) (sym (zero-add i)) (at i (decLt i n)))
   where
     at : (i : ℕ) → Dec (i < n) → getD rows i 0 ≤ rowMost n i
     at i (yes l) = omega (arith, most-inside n i l, s .within i)
@@ -101,7 +102,8 @@ unfolding cancelFault
 cancel-some zero rows s ne l e = absurd (omega arith)
 cancel-some (suc k) rows s ne l e = go (ℕ-discrete (combine (suc k) rows) 0) (λ h. cancel-some k rows s ne h e)
   where
-    go : Dec (combine (suc k) rows ≡ 0) → (s ≤ k → rowRule ≡ cancelFault k rows) → rowRule ≡ either (eqb (combine (suc k) rows) 0) rowRule (cancelFault k rows)
+    go : Dec (combine (suc k) rows ≡ 0) → (s ≤ k → rowRule ≡ cancelFault k rows)
+        → rowRule ≡ either (eqb (combine (suc k) rows) 0) rowRule (cancelFault k rows)
     go (yes z) f = simp (eq-eqb (combine (suc k) rows) 0 z)
     go (no z) f = rw (ne-eqb (combine (suc k) rows) 0 z) (f (below (ℕ-discrete s (suc k))))
       where
@@ -112,7 +114,8 @@ cancel-some (suc k) rows s ne l e = go (ℕ-discrete (combine (suc k) rows) 0) (
 cancel-none : (k : ℕ) (rows : List ℕ) → ((s : ℕ) → s ≢ 0 → s ≤ k → combine s rows ≢ 0) → 0 ≡ cancelFault k rows
 unfolding cancelFault
 cancel-none zero rows h = refl
-cancel-none (suc k) rows h = rw (ne-eqb (combine (suc k) rows) 0 (h (suc k) (omega arith) (le-refl (suc k)))) (cancel-none k rows (λ s ne l. h s ne (omega arith)))
+cancel-none (suc k) rows h =
+    rw (ne-eqb (combine (suc k) rows) 0 (h (suc k) (omega arith) (le-refl (suc k)))) (cancel-none k rows (λ s ne l. h s ne (omega arith)))
 
 module _ (n : ℕ) (rows : List ℕ) where
   pub dependent-fault : Dependent n rows → rowRule ≡ cancelFault (2 ^ n - 1) rows
@@ -145,7 +148,8 @@ module _ (N n : ℕ) (rows : List ℕ) where
 
   module _ (long : length rows ≡ N) (f : ℕ) (e : f ≡ beyondFault n 0 rows) where
     pub rows-beyond : f ≢ 0 → f ≡ rowsFault N n rows
-    rows-beyond h = or-first f (cancelFault (2 ^ n - 1) rows) h ∙ ap (λ (x : ℕ). orElse x (cancelFault (2 ^ n - 1) rows)) e ∙ right-length long
+    rows-beyond h =
+        or-first f (cancelFault (2 ^ n - 1) rows) h ∙ ap (λ (x : ℕ). orElse x (cancelFault (2 ^ n - 1) rows)) e ∙ right-length long
 
     pub rows-cancel : f ≡ 0 → cancelFault (2 ^ n - 1) rows ≡ rowsFault N n rows
     rows-cancel z = or-second (beyondFault n 0 rows) (cancelFault (2 ^ n - 1) rows) (sym e ∙ z) ∙ right-length long
@@ -164,4 +168,5 @@ module _ (N n : ℕ) (rows : List ℕ) where
       from : SoundRows N n rows → rowsFault N n rows ≡ 0
       from s =
           sym (right-length (s .long))
-          ∙ or-well (beyondFault n 0 rows) (cancelFault (2 ^ n - 1) rows) (shaped-clear N n rows (record { long = s .long; within = s .within; beyond = s .beyond })) (sym (independent-clear n rows (s .free)))
+          ∙ or-well (beyondFault n 0 rows) (cancelFault (2 ^ n - 1) rows) (shaped-clear N n rows (shape s))
+          (sym (independent-clear n rows (s .free)))

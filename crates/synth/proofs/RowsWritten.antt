@@ -1,4 +1,5 @@
--- Writing rows: sound rows are brought about by at most n * n CNOTs. Where a mask has no pivot, the rows are dependent; where every mask has one, they are independent. Over n and N.
+-- Writing rows: sound rows are brought about by at most n * n CNOTs. Where a mask has no pivot, the rows are dependent; where every mask has one,
+-- they are independent. Over n and N.
 use mathlib.Core.List.{_++_, List, []}
 use mathlib.Core.Logic.{_≢_}
 use mathlib.Core.Path.{ap, ap₂, refl, subst, sym, _∙_, _≡_}
@@ -11,11 +12,9 @@ use lib.ListN.{getD, length, length-append}
 use lib.Pow.{pow-lt}
 use lib.Seq.{ext-getD}
 use Rattle.circuit.proofs.Sound.{read-append}
-use Rattle.circuit.specs.Entry.{after}
 use Rattle.circuit.specs.Faults.{AllWellFormed}
 use Rattle.circuit.specs.Gate.{Gate}
-use Rattle.circuit.specs.Lent.{readingLent}
-use Rattle.circuit.specs.Read.{Reading, firstRows, readFrom}
+use Rattle.circuit.specs.Read.{Reading, firstRows, readFrom, withRows}
 use Rattle.circuit.specs.Sound.{SoundRows}
 use Rattle.gf2.proofs.BitCounts.{bits-below}
 use Rattle.gf2.proofs.Gather.{combine-agree}
@@ -26,7 +25,8 @@ use Rattle.gf2.specs.Selection.{Independent, combine}
 use Rattle.synth.proofs.Cnots.{kinds-cnots}
 use Rattle.synth.proofs.Lists.{formed-append, kinds-append}
 use Rattle.synth.proofs.MaskSteps.{Going, going-start, heldAfter, row-formed, row-keeps, row-length, row-reads}
-use Rattle.synth.proofs.Pivots.{pivot-none, pivot-some}
+use Rattle.synth.proofs.Pivots.{Names, pivot-none, pivot-some}
+use Rattle.synth.specs.Faults.{Shaped}
 use Rattle.synth.specs.Spelling.{kindsAt}
 use Rattle.synth.specs.Writing.{cnots, lack, nextMasks, pivot, rowGates, rowsFrom, surplus, writeRows}
 
@@ -65,76 +65,74 @@ no-pivot N n r wanted masks held h l empty =
 
     made : combine m wanted ≡ getD wanted r 0
     made =
-        ap (λ (x : ℕ). combine x wanted) (sym (mod-eq-of-lt low)) ∙ sym (combine-agree r m held wanted same) ∙ ap (λ (x : ℕ). combine x held) (mod-eq-of-lt low)
-        ∙ h .makes r l
+        ap (λ (x : ℕ). combine x wanted) (sym (mod-eq-of-lt low)) ∙ sym (combine-agree r m held wanted same)
+        ∙ ap (λ (x : ℕ). combine x held) (mod-eq-of-lt low) ∙ h .makes r l
 
-module _ (N n : ℕ) (fit : n ≤ N) (wanted : List ℕ) where
-  -- ---- what a loop over the rows knows
+-- ---- what a loop over the rows knows
 
-  module _ (r : ℕ) (masks held : List ℕ) (inside : r < n) (h : Going N n r wanted masks held) where
-    pub going-stops : n ≤ pivot n r (getD masks r 0) → Dependent n wanted
-    going-stops g = no-pivot N n r wanted masks held h inside (pivot-none n r (getD masks r 0) (omega arith) g)
+module _ {N n r : ℕ} {wanted masks held : List ℕ} (h : Going N n r wanted masks held) (inside : r < n) where
+  pub going-stops : n ≤ pivot n r (getD masks r 0) → Dependent n wanted
+  going-stops g = no-pivot N n r wanted masks held h inside (pivot-none n r (getD masks r 0) (omega arith) g)
 
-    pub going-next : pivot n r (getD masks r 0) < n → (held′ : List ℕ) × Going N n (suc r) wanted (nextMasks r (pivot n r (getD masks r 0)) masks) held′
-    going-next l =
-        let b : ℕ = pivot n r (getD masks r 0) in
-        let p = pivot-some n r (getD masks r 0) (omega arith) l in
-        (heldAfter N n r wanted masks held fit h b (p .0) l (p .1), row-keeps N n r wanted masks held fit h b (p .0) l (p .1))
+  pub going-next : n ≤ N → (b : ℕ) → b ≡ pivot n r (getD masks r 0) → b < n → Going N n (suc r) wanted (nextMasks r b masks) (heldAfter r b masks held)
+  going-next fit b e l = rw e (row-keeps fit h (pivot-some n r (getD masks r 0) (omega arith) (rw e at l)))
 
-  module _ (tall : length wanted ≡ N) (beyond : (i : ℕ) → n ≤ i → getD wanted i 0 ≡ 0) where
-    -- all masks are 2 ^ i: the rows are there
-    all-past : (masks held : List ℕ) → Going N n n wanted masks held → held ≡ wanted
-    all-past masks held h = ext-getD 0 held wanted (h .tall ∙ sym tall) (λ i l. at i (decLt i n))
-      where
-        at : (i : ℕ) → Dec (i < n) → getD held i 0 ≡ getD wanted i 0
-        at i (yes l) = sym (combine-one i held) ∙ ap (λ (x : ℕ). combine x held) (sym (h .past i l)) ∙ h .makes i l
-        at i (no g) = h .beyond i (omega arith) ∙ sym (beyond i (omega arith))
+-- all masks are 2 ^ i: the rows are there
+all-past : {N n : ℕ} {wanted masks held : List ℕ} → Shaped N n wanted → Going N n n wanted masks held → held ≡ wanted
+all-past {N} {n} {wanted} {masks} {held} s h = ext-getD 0 held wanted (h .tall ∙ sym (s .long)) (λ i l. at i (decLt i n))
+  where
+    at : (i : ℕ) → Dec (i < n) → getD held i 0 ≡ getD wanted i 0
+    at i (yes l) = sym (combine-one i held) ∙ ap (λ (x : ℕ). combine x held) (sym (h .past i l)) ∙ h .makes i l
+    at i (no g) = h .beyond i (omega arith) ∙ sym (s .beyond i (omega arith))
 
-    pub going-ends : (masks held : List ℕ) → Going N n n wanted masks held → Independent n wanted
-    going-ends masks held h = subst (λ (rows : List ℕ). Independent n rows) (all-past masks held h) (h .free)
+pub going-ends : {N n : ℕ} {wanted masks held : List ℕ} → Shaped N n wanted → Going N n n wanted masks held → Independent n wanted
+going-ends {N} {n} s h = subst (λ (rows : List ℕ). Independent n rows) (all-past s h) (h .free)
+
+-- sound rows are shaped, and never lack a pivot
+pub shape : {N n : ℕ} {rows : List ℕ} → SoundRows N n rows → Shaped N n rows
+shape s = record { long = s .long; within = s .within; beyond = s .beyond }
+
+pub sound-pivot : {N n r : ℕ} {wanted masks held : List ℕ} → SoundRows N n wanted → Going N n r wanted masks held → r < n
+    → pivot n r (getD masks r 0) < n
+sound-pivot {N} {n} {r} {wanted} {masks} {held} sound h l = go (decLt (pivot n r (getD masks r 0)) n)
+  where
+    go : Dec (pivot n r (getD masks r 0) < n) → pivot n r (getD masks r 0) < n
+    go (yes g) = g
+    go (no g) = let d = going-stops h l (omega arith) in absurd (sound .free (d .mask) (d .some) (d .less) (d .cancels))
 
 -- ---- the gates
 
 -- gates that bring the rows held to those wanted: k rows, at most n gates each
 pub record Brings (n k : ℕ) (held wanted : List ℕ) (gs : List Gate) : Type 0 where
-  pub reads : (w : List ℕ) → readFrom gs (readingLent w held) ≡ readingLent w wanted
+  pub reads : (r : Reading) → r .rows ≡ held → readFrom gs r ≡ withRows wanted r
   pub formed : AllWellFormed n gs
   pub short : length gs ≤ k * n
 
 -- a row's gates before the gates of the rows after it
-brings-after : (n k : ℕ) (held between wanted : List ℕ) (xs ys : List Gate) → ((w : List ℕ) → readFrom xs (readingLent w held) ≡ readingLent w between)
-    → AllWellFormed n xs → length xs ≤ n → Brings n k between wanted ys → Brings n (suc k) held wanted (xs ++ ys)
-brings-after n k held between wanted xs ys reads formed short b =
+brings-after : {n k : ℕ} {held between wanted : List ℕ} {xs ys : List Gate} → Brings n 1 held between xs → Brings n k between wanted ys
+    → Brings n (suc k) held wanted (xs ++ ys)
+brings-after {n} {k} {held} {between} {wanted} {xs} {ys} a b =
     record {
-      reads = λ w. read-append xs ys (readingLent w held) ∙ ap (readFrom ys) (reads w) ∙ b .reads w;
-      formed = formed-append n xs ys formed (b .formed);
-      short = omega (arith, length-append xs ys, b .short);
+      reads = λ r e. read-append xs ys r ∙ ap (readFrom ys) (a .reads r e) ∙ b .reads (withRows between r) refl;
+      formed = formed-append n xs ys (a .formed) (b .formed);
+      short = omega (arith, length-append xs ys, a .short, b .short);
     }
 
 module _ (N n : ℕ) (fit : n ≤ N) (wanted : List ℕ) (sound : SoundRows N n wanted) where
-  -- sound rows never lack a pivot
-  pub sound-pivot : (r : ℕ) (masks held : List ℕ) → r < n → Going N n r wanted masks held → pivot n r (getD masks r 0) < n
-  sound-pivot r masks held l h = go (decLt (pivot n r (getD masks r 0)) n)
-    where
-      go : Dec (pivot n r (getD masks r 0) < n) → pivot n r (getD masks r 0) < n
-      go (yes g) = g
-      go (no g) = let d = going-stops N n fit wanted r masks held l h (omega arith) in absurd (sound .free (d .mask) (d .some) (d .less) (d .cancels))
+  row-brings : {r : ℕ} {masks held : List ℕ} {b : ℕ} → Going N n r wanted masks held → Names n r (getD masks r 0) b
+      → Brings n 1 held (heldAfter r b masks held) (rowGates n r b masks)
+  row-brings h p = record { reads = row-reads fit h p; formed = row-formed fit h p; short = omega (arith, row-length fit h p) }
 
   rows-bring : (k r : ℕ) (masks held : List ℕ) → r + k ≡ n → Going N n r wanted masks held → Brings n k held wanted (rowsFrom n k r masks)
   unfolding rowsFrom readFrom
   rows-bring zero r masks held e h =
       let z : r ≡ n = omega arith in
-      record { reads = λ w. ap (readingLent w) (all-past N n fit wanted (sound .long) (sound .beyond) masks held (rw z at h)); formed = tt; short = omega arith }
+      let same : held ≡ wanted = all-past (shape sound) (rw z at h) in
+      record { reads = λ s g. ap (λ (rows : List ℕ). withRows rows s) (g ∙ same); formed = tt; short = omega arith }
   rows-bring (suc k) r masks held e h =
-      let b : ℕ = pivot n r (getD masks r 0) in
-      let hi : b < n = sound-pivot r masks held (omega arith) h in
-      let p = pivot-some n r (getD masks r 0) (omega arith) hi in
-      let after : List ℕ = heldAfter N n r wanted masks held fit h b (p .0) hi (p .1) in
-      brings-after n k held after wanted (rowGates n r b masks) (rowsFrom n k (suc r) (nextMasks r b masks))
-      (row-reads N n r wanted masks held fit h b (p .0) hi (p .1))
-      (row-formed N n r wanted masks held fit h b (p .0) hi (p .1))
-      (row-length N n r wanted masks held fit h b (p .0) hi (p .1))
-      (rows-bring k (suc r) (nextMasks r b masks) after (omega arith) (row-keeps N n r wanted masks held fit h b (p .0) hi (p .1)))
+      let l : r < n = omega arith in
+      let p = pivot-some n r (getD masks r 0) (omega arith) (sound-pivot sound h l) in
+      brings-after (row-brings h p) (rows-bring k (suc r) _ _ (omega arith) (row-keeps fit h p))
 
   pub rows-written : Brings n n (firstRows N n) wanted (writeRows n wanted)
   rows-written = rows-bring n 0 wanted (firstRows N n) (zero-add n) (going-start N n wanted fit (sound .long) (sound .within))

@@ -1,4 +1,5 @@
--- The spelling of a weight: phase gates alone, at most two, that add the weight at the parity their wire holds. One of them is T or T dagger where the weight is odd, none where it is even.
+-- The spelling of a weight: phase gates alone, at most two, that add the weight at the parity their wire holds. One of them is T or T dagger
+-- where the weight is odd, none where it is even.
 use mathlib.Core.Bool.{Bool, false, true}
 use mathlib.Core.List.{List, [], map, _∷_}
 use mathlib.Core.Logic.{_≢_}
@@ -11,8 +12,7 @@ use lib.Seq.{getD-set-same, set-set}
 use borrow.Author.Tests.{eq-eqb, ne-eqb}
 use Rattle.circuit.specs.Faults.{AllWellFormed}
 use Rattle.circuit.specs.Gate.{T, T-dagger, gate, kindOf}
-use Rattle.circuit.specs.Lent.{readingLent}
-use Rattle.circuit.specs.Read.{readFrom, readKind}
+use Rattle.circuit.specs.Read.{Reading, readFrom, readKind, row, withWeights}
 use Rattle.gf2.specs.Sum.{delta}
 use Rattle.gf2.specs.Table.{addAt}
 use Rattle.synth.specs.Spelling.{kindsAt, occurs, spelling}
@@ -45,17 +45,17 @@ addAt-twice w q x y z h e =
     ∙ ap (λ (c : ℕ). set w q ((c + y) % 8)) (getD-set-same w q u 0 h) ∙ ap (set w q) (omega arith)
 
 -- spelled gates on wire t add v at the parity that t holds
-pub read-spell : (v t : ℕ) (w rows : List ℕ) → v < 7 → getD rows t 0 < length w
-    → readFrom (spell (suc v) t) (readingLent w rows) ≡ readingLent (addAt 8 w (getD rows t 0) (suc v)) rows
+pub read-spell : (v t : ℕ) (r : Reading) → v < 7 → row r t < length (r .weights)
+    → readFrom (spell (suc v) t) r ≡ withWeights (addAt 8 (r .weights) (row r t) (suc v)) r
 unfolding spell spelling readFrom readKind kindOf
-read-spell zero t w rows l h = refl
-read-spell (suc zero) t w rows l h = refl
-read-spell (suc (suc zero)) t w rows l h = ap (λ (u : List ℕ). readingLent u rows) (addAt-twice w (getD rows t 0) 2 1 3 h refl)
-read-spell (suc (suc (suc zero))) t w rows l h = refl
-read-spell (suc (suc (suc (suc zero)))) t w rows l h = ap (λ (u : List ℕ). readingLent u rows) (addAt-twice w (getD rows t 0) 4 1 5 h refl)
-read-spell (suc (suc (suc (suc (suc zero))))) t w rows l h = refl
-read-spell (suc (suc (suc (suc (suc (suc zero)))))) t w rows l h = refl
-read-spell (suc (suc (suc (suc (suc (suc (suc v))))))) t w rows l h = absurd (omega arith)
+read-spell zero t r l h = refl
+read-spell (suc zero) t r l h = refl
+read-spell (suc (suc zero)) t r l h = ap (λ (w : List ℕ). withWeights w r) (addAt-twice (r .weights) (row r t) 2 1 3 h refl)
+read-spell (suc (suc (suc zero))) t r l h = refl
+read-spell (suc (suc (suc (suc zero)))) t r l h = ap (λ (w : List ℕ). withWeights w r) (addAt-twice (r .weights) (row r t) 4 1 5 h refl)
+read-spell (suc (suc (suc (suc (suc zero))))) t r l h = refl
+read-spell (suc (suc (suc (suc (suc (suc zero)))))) t r l h = refl
+read-spell (suc (suc (suc (suc (suc (suc (suc v))))))) t r l h = absurd (omega arith)
 
 -- ---- how many, and well formed
 
@@ -86,26 +86,26 @@ abbrev kept : Bool → List ℕ → List ℕ
 kept true ks = ks
 kept false ks = []
 
-kinds-on : (p t : ℕ) (rows : List ℕ) (holds : Bool) → eqb (getD rows t 0) p ≡ holds → (ks : List ℕ) → Phases ks → (w : List ℕ)
-    → kindsAt p (map (λ kind. gate kind t 0) ks) (readingLent w rows) ≡ kept holds ks
+kinds-on : (p t : ℕ) (holds : Bool) (ks : List ℕ) → Phases ks → (r : Reading) → eqb (row r t) p ≡ holds
+    → kindsAt p (map (λ kind. gate kind t 0) ks) r ≡ kept holds ks
 unfolding kindsAt readKind
-kinds-on p t rows true e [] f w = refl
-kinds-on p t rows false e [] f w = refl
-kinds-on p t rows true e (k ∷ ks) f w =
-    rw (f .0 .1, e) (ap (λ (l : List ℕ). k ∷ l) (kinds-on p t rows true e ks (f .1) (addAt 8 w (getD rows t 0) (f .0 .0))))
-kinds-on p t rows false e (k ∷ ks) f w =
-    rw (f .0 .1, e) (kinds-on p t rows false e ks (f .1) (addAt 8 w (getD rows t 0) (f .0 .0)))
+kinds-on p t true [] f r e = refl
+kinds-on p t false [] f r e = refl
+kinds-on p t true (k ∷ ks) f r e =
+    rw (f .0 .1, e) (ap (λ (l : List ℕ). k ∷ l) (kinds-on p t true ks (f .1) (withWeights (addAt 8 (r .weights) (row r t) (f .0 .0)) r) e))
+kinds-on p t false (k ∷ ks) f r e =
+    rw (f .0 .1, e) (kinds-on p t false ks (f .1) (withWeights (addAt 8 (r .weights) (row r t) (f .0 .0)) r) e)
 
-module _ (p v t : ℕ) (small : v < 8) (w rows : List ℕ) where
+module _ (p v t : ℕ) (small : v < 8) (r : Reading) where
   -- the spelling, at the parity that the wire holds
-  pub kinds-here : getD rows t 0 ≡ p → kindsAt p (spell v t) (readingLent w rows) ≡ spelling v
+  pub kinds-here : row r t ≡ p → kindsAt p (spell v t) r ≡ spelling v
   unfolding spell
-  kinds-here e = kinds-on p t rows true (eq-eqb (getD rows t 0) p e) (spelling v) (spelling-phases v small) w
+  kinds-here e = kinds-on p t true (spelling v) (spelling-phases v small) r (eq-eqb (row r t) p e)
 
   -- nothing, at another
-  pub kinds-away : getD rows t 0 ≢ p → kindsAt p (spell v t) (readingLent w rows) ≡ []
+  pub kinds-away : row r t ≢ p → kindsAt p (spell v t) r ≡ []
   unfolding spell
-  kinds-away e = kinds-on p t rows false (ne-eqb (getD rows t 0) p e) (spelling v) (spelling-phases v small) w
+  kinds-away e = kinds-on p t false (spelling v) (spelling-phases v small) r (ne-eqb (row r t) p e)
 
 -- ---- T and T dagger
 

@@ -13,7 +13,7 @@ use Rattle.circuit.specs.Gate.{Gate, T, T-dagger, kindOf, tGates}
 use Rattle.circuit.specs.Lent.{readingLent}
 use Rattle.circuit.specs.Limits.{writtenGates}
 use Rattle.circuit.specs.OddSet.{members, oddSet}
-use Rattle.circuit.specs.Read.{firstRows, read, readFrom, start}
+use Rattle.circuit.specs.Read.{firstRows, read, readFrom, start, withWeights}
 use Rattle.circuit.specs.Sound.{SoundRows, SoundWeights, weight}
 use Rattle.gf2.proofs.Pairing.{sum-stop}
 use Rattle.gf2.proofs.Sum.{sum-add, sum-ext}
@@ -37,13 +37,14 @@ module _ (N n : ℕ) (fit : n ≤ N) (w rows : List ℕ) (sw : SoundWeights (2 ^
 
   formed : AllWellFormed n gs
   unfolding gs
-  formed = formed-append n (writePhases N n w (2 ^ n)) (writeRows n rows) (formed-phases N n fit w sw (2 ^ n) (le-refl (2 ^ n))) (bring .formed)
+  formed =
+      formed-append n (writePhases N n w (2 ^ n)) (writeRows n rows) (formed-phases N n fit w sw (2 ^ n) (le-refl (2 ^ n))) (bring .formed)
 
   reads : read N n gs ≡ readingLent w rows
   unfolding gs
   reads =
       read-append (writePhases N n w (2 ^ n)) (writeRows n rows) (start N n) ∙ ap (readFrom (writeRows n rows)) (phases-read-back N n fit w sw)
-      ∙ bring .reads w
+      ∙ bring .reads (withWeights w (start N n)) refl
 
   short : length gs ≤ writtenGates n
   unfolding gs
@@ -53,7 +54,8 @@ module _ (N n : ℕ) (fit : n ≤ N) (w rows : List ℕ) (sw : SoundWeights (2 ^
   unfolding gs
   spelled p =
       kinds-append p (writePhases N n w (2 ^ n)) (writeRows n rows) (start N n)
-      ∙ rw (kinds-phases N n fit w sw p, kinds-rows p n n 0 rows (readFrom (writePhases N n w (2 ^ n)) (start N n))) (append-nil (spelling (weight w p)))
+      ∙ rw (kinds-phases N n fit w sw p, kinds-rows p n n 0 rows (readFrom (writePhases N n w (2 ^ n)) (start N n)))
+      (append-nil (spelling (weight w p)))
 
   -- no weight from 2 ^ n on
   kinds : (kind v : ℕ) → kindOf kind ≡ Phase v → gatesOfKind kind gs ≡ spelledGates kind w
@@ -72,7 +74,8 @@ module _ (N n : ℕ) (fit : n ≤ N) (w rows : List ℕ) (sw : SoundWeights (2 ^
       let f : ℕ → ℕ = λ p. occurs T (spelling (weight w p)) in
       let g : ℕ → ℕ = λ p. occurs T-dagger (spelling (weight w p)) in
       t-by-kind gs ∙ ap₂ _+_ (kinds T 1 refl) (kinds T-dagger 7 refl) ∙ sym (sum-add (length w) f g)
-      ∙ sum-ext (length w) (λ p. f p + g p) (λ p. getD (oddSet w) p 0) (λ p l. occurs-odd (weight w p) (sw .small p) ∙ sym (odd-mark w p))
+      ∙ sum-ext (length w) (λ p. f p + g p) (λ p. getD (oddSet w) p 0)
+      (λ p l. occurs-odd (weight w p) (sw .small p) ∙ sym (odd-mark w p))
       ∙ ap (λ (k : ℕ). sum k (λ p. getD (oddSet w) p 0)) (sym (length-odd w))
 
   pub list-written : Wrote N n w rows (writeList N n w rows)

@@ -8,46 +8,57 @@ use native.Mathlib.Omega.{arith}
 use lib.ListN.{length, take}
 use lib.Pow.{pow-mono}
 use Rattle.circuit.proofs.Judging.{or-pass, or-well, short-pass, short-well}
+use Rattle.circuit.proofs.TableRule.{call-passes, passes-call, weights-sound}
 use Rattle.circuit.specs.Faults.{Accepted, orElse, shortFault}
 use Rattle.circuit.specs.Gate.{Gate, bytesOf, gatesOf}
-use Rattle.circuit.specs.Limits.{gateBytes, maxWires, maxWrittenGates, parities, rowCells, writeBytes, writtenGates}
-use Rattle.circuit.specs.Sound.{SoundRows, SoundWeights}
-use Rattle.circuit.proofs.TableRule.{weights-sound}
-use Rattle.circuit.proofs.TableRule.{call-passes, passes-call}
-use Rattle.circuit.specs.TableFaults.{callFault, weightsFault}
 use Rattle.circuit.specs.Lent.{frontGates}
+use Rattle.circuit.specs.Limits.{gateBytes, maxWires, maxWrittenGates, parities, rowCells, writeBytes, writtenGates}
+use Rattle.circuit.specs.TableFaults.{callFault, weightsFault}
 use Rattle.synth.proofs.GateBytes.{gates-of-bytes, length-bytes}
 use Rattle.synth.proofs.RowRule.{or-first, or-second, rows-sound}
-use Rattle.synth.proofs.Stores.{room-first, room-then, stored-front, stored-long, stored-rest, stored-then}
+use Rattle.synth.proofs.Stores.{room-first, room-then, stored-front, stored-kept, stored-then}
 use Rattle.synth.proofs.WriteBack.{list-written}
 use Rattle.synth.specs.Entry.{WriteList, Wrote, WroteBytes, writeReply}
 use Rattle.synth.specs.Faults.{Writable, rowsFault, writeFault}
-use Rattle.synth.specs.Storing.{Room, Stored}
-use Rattle.synth.specs.Writing.{writeList, writePhases, writeRows}
+use Rattle.synth.specs.Storing.{PhasesReady, Room, RowsReady, Stored}
+use Rattle.synth.specs.Writing.{writePhases, writeRows}
 use Rattle.synth.specs.declared.Written.the-variants.{Done, Refused}
 
 -- a written list for n wires is no longer than the longest
 pub longest : (n : ℕ) → n ≤ maxWires → writtenGates n ≤ maxWrittenGates
 longest n h =
-    let a : n * 2 ^ n ≤ maxWires * 2 ^ maxWires = mul-le-mul {n₁ = n} {m₁ = 2 ^ n} {n₂ = maxWires} {m₂ = 2 ^ maxWires} h (pow-mono {i = n} {j = maxWires} h) in
+    let p : 2 ^ n ≤ 2 ^ maxWires = pow-mono {i = n} {j = maxWires} h in
+    let a : n * 2 ^ n ≤ maxWires * 2 ^ maxWires = mul-le-mul {n₁ = n} {m₁ = 2 ^ n} {n₂ = maxWires} {m₂ = 2 ^ maxWires} h p in
     let b : n * n ≤ maxWires * maxWires = mul-le-mul {n₁ = n} {m₁ = n} {n₂ = maxWires} {m₂ = maxWires} h h in
     omega arith
 
 -- ---- the checks
 
-module _ (n : ℕ) (w rows : List ℕ) (gates : ℕ) where
-  pub call-refuses : (f : ℕ) → f ≡ callFault n (shortFault gates writeBytes) (weightsFault n w) → f ≢ 0 → f ≡ writeFault n w rows gates
-  unfolding writeFault
-  call-refuses f e h = or-first f (rowsFault rowCells n rows) h ∙ ap (λ (x : ℕ). orElse x (rowsFault rowCells n rows)) e
+-- 1, 8 and 6 of a call
+abbrev callPart : ℕ → List ℕ → ℕ → ℕ
+callPart n w gates = callFault n (shortFault gates writeBytes) (weightsFault n w)
 
-  pub rows-decide : (f : ℕ) → f ≡ callFault n (shortFault gates writeBytes) (weightsFault n w) → f ≡ 0 → rowsFault rowCells n rows ≡ writeFault n w rows gates
-  unfolding writeFault
-  rows-decide f e z = or-second (callFault n (shortFault gates writeBytes) (weightsFault n w)) (rowsFault rowCells n rows) (sym e ∙ z)
+module _ (n : ℕ) (w rows : List ℕ) (gates : ℕ) where
+  -- the code's fault of what is lent, and the code's fault of the call with it
+  module _ (lent f : ℕ) (el : lent ≡ shortFault gates writeBytes) (ef : f ≡ callFault n lent (weightsFault n w)) where
+    e : f ≡ callPart n w gates
+    e = ef ∙ ap (λ (x : ℕ). callFault n x (weightsFault n w)) el
+
+    pub call-refuses : f ≢ 0 → f ≡ writeFault n w rows gates
+    unfolding writeFault
+    call-refuses h = or-first f (rowsFault rowCells n rows) h ∙ ap (λ (x : ℕ). orElse x (rowsFault rowCells n rows)) e
+
+    pub wires-few : f ≡ 0 → n ≤ maxWires
+    wires-few z = call-passes n lent (weightsFault n w) (sym ef ∙ z) .1
+
+    pub rows-decide : f ≡ 0 → rowsFault rowCells n rows ≡ writeFault n w rows gates
+    unfolding writeFault
+    rows-decide z = or-second (callPart n w gates) (rowsFault rowCells n rows) (sym e ∙ z)
 
   pub fault-ready : writeFault n w rows gates ≡ 0 → Writable n w rows gates
   unfolding writeFault
   fault-ready e =
-      let a = or-pass (callFault n (shortFault gates writeBytes) (weightsFault n w)) (rowsFault rowCells n rows) e in
+      let a = or-pass (callPart n w gates) (rowsFault rowCells n rows) e in
       let b = call-passes n (shortFault gates writeBytes) (weightsFault n w) (a .0) in
       record {
         some = b .0;
@@ -60,8 +71,9 @@ module _ (n : ℕ) (w rows : List ℕ) (gates : ℕ) where
   pub ready-faultless : Writable n w rows gates → writeFault n w rows gates ≡ 0
   unfolding writeFault
   ready-faultless r =
-      or-well (callFault n (shortFault gates writeBytes) (weightsFault n w)) (rowsFault rowCells n rows)
-      (passes-call n (shortFault gates writeBytes) (weightsFault n w) (r .some) (r .few) (short-well gates writeBytes (r .room)) (weights-sound parities n w .1 (r .weights-sound)))
+      or-well (callPart n w gates) (rowsFault rowCells n rows)
+      (passes-call n (shortFault gates writeBytes) (weightsFault n w) (r .some) (r .few) (short-well gates writeBytes (r .room))
+      (weights-sound parities n w .1 (r .weights-sound)))
       (rows-sound rowCells n rows .1 (r .rows-sound))
 
 -- ---- the ways out
@@ -83,42 +95,41 @@ module _ (n : ℕ) (w rows g : List ℕ) (f : ℕ) (judged : f ≡ writeFault n 
 
 -- ---- the gates stored
 
-module _ (n : ℕ) (w rows g : List ℕ) (ready : Writable n w rows (length g)) where
-  wrote : Wrote maxWires n w rows (writeList maxWires n w rows)
+module _ (g : List ℕ) {n : ℕ} {w rows : List ℕ} (ready : Writable n w rows (length g)) where
+  abbrev phases : List Gate
+  phases = writePhases maxWires n w (2 ^ n)
+
+  wrote : Wrote maxWires n w rows (phases ++ writeRows n rows)
   wrote = list-written maxWires n (ready .few) w rows (ready .weights-sound) (ready .rows-sound)
 
-  room : Room g 0 (writePhases maxWires n w (2 ^ n) ++ writeRows n rows)
+  room : Room g 0 (phases ++ writeRows n rows)
   room = omega (arith, wrote .short, longest n (ready .few), ready .room)
 
-  pub phases-ready : (n ≤ maxWires) × SoundWeights parities n w × Room g 0 (writePhases maxWires n w (2 ^ n))
-  phases-ready = (ready .few, ready .weights-sound, room-first g 0 (writePhases maxWires n w (2 ^ n)) (writeRows n rows) room)
-
-  pub rows-long : length rows ≡ rowCells
-  rows-long = ready .rows-sound .long
+  pub phases-ready : PhasesReady g n w
+  phases-ready = record { few = ready .few; sound = ready .weights-sound; room = room-first g 0 phases (writeRows n rows) room }
 
   -- m is the copy of the rows
-  module _ (g₁ : List ℕ) (k : ℕ) (a : Stored g g₁ 0 k (writePhases maxWires n w (2 ^ n))) (m : List ℕ) (same : m ≡ rows) where
-    pub rows-ready : (n ≤ maxWires) × SoundRows maxWires n m × Room g₁ k (writeRows n m)
-    rows-ready = rw same (ready .few, ready .rows-sound, room-then g g₁ 0 k (writePhases maxWires n w (2 ^ n)) (writeRows n rows) a room)
+  module _ {g₁ : List ℕ} {k : ℕ} (a : Stored g g₁ 0 k (writePhases maxWires n w (2 ^ n))) {m : List ℕ} (same : m ≡ rows) where
+    pub rows-ready : RowsReady g₁ k n m
+    rows-ready = rw same (record { few = ready .few; sound = ready .rows-sound; room = room-then a (writeRows n rows) room })
 
-    pub gates-stored : (g₂ : List ℕ) (count : ℕ) → Stored g₁ g₂ k count (writeRows n m) → WroteBytes n w rows g g₂ count
-    gates-stored g₂ count b =
+    pub gates-stored : {g₂ : List ℕ} {count : ℕ} → Stored g₁ g₂ k count (writeRows n m) → WroteBytes n w rows g g₂ count
+    gates-stored {g₂} {count} b =
         record {
           counted = omega (arith, all .count, ap length front);
           accepted = accepted;
           list = subst (λ (hs : List Gate). Wrote maxWires n w rows hs) (sym front) wrote;
-          rest = stored-rest g g₂ count gs all room;
-          long = stored-long g g₂ count gs all room;
+          kept = stored-kept all room;
         }
       where
         gs : List Gate
-        gs = writePhases maxWires n w (2 ^ n) ++ writeRows n rows
+        gs = phases ++ writeRows n rows
 
         all : Stored g g₂ 0 count gs
-        all = stored-then g g₁ 0 k (writePhases maxWires n w (2 ^ n)) (writeRows n rows) a g₂ count (subst (λ (x : List ℕ). Stored g₁ g₂ k count (writeRows n x)) same b)
+        all = stored-then a (subst (λ (x : List ℕ). Stored g₁ g₂ k count (writeRows n x)) same b)
 
         bytes : take (gateBytes * count) g₂ ≡ bytesOf gs
-        bytes = stored-front g g₂ count gs all room
+        bytes = stored-front all room
 
         front : frontGates count g₂ ≡ gs
         front = ap gatesOf bytes ∙ gates-of-bytes gs

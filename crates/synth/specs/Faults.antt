@@ -1,8 +1,9 @@
 -- Document 01, "Faults": number 7, of rows, and the checks of a call that writes a list: 1, 8, 6, 7. A fault's number is that of the table; 0 stands for none.
 use mathlib.Core.List.{List, [], _∷_}
-use Prim.Native.Nat.{_-_, _^_, _≤_, suc, zero, ℕ}
+use mathlib.Core.Path.{_≡_}
+use Prim.Native.Nat.{_-_, _<_, _^_, _≤_, suc, zero, ℕ}
 use lib.Dec.{eqb, leb, ltb}
-use lib.ListN.{length}
+use lib.ListN.{getD, length}
 use Rattle.gf2.specs.Selection.{combine}
 use Rattle.circuit.specs.Faults.{orElse, rowRule, shortFault}
 use Rattle.circuit.specs.Limits.{maxWires, parities, rowCells, writeBytes}
@@ -17,6 +18,12 @@ pub record Writable (n : ℕ) (weights rows : List ℕ) (gates : ℕ) : Type 0 w
   pub room : writeBytes ≤ gates
   pub weights-sound : SoundWeights parities n weights
   pub rows-sound : SoundRows maxWires n rows
+
+-- what is sound of N rows but their being invertible
+pub record Shaped (N n : ℕ) (rows : List ℕ) : Type 0 where
+  pub long : length rows ≡ N
+  pub within : (i : ℕ) → getD rows i 0 < 2 ^ n
+  pub beyond : (i : ℕ) → n ≤ i → getD rows i 0 ≡ 0
 
 -- ---- the same, computed
 

@@ -1,11 +1,14 @@
 -- Gates stored in lent bytes, one after the other: what the functions behind the entry require and promise.
 use mathlib.Core.List.{List}
 use mathlib.Core.Path.{_≡_}
-use Prim.Native.Nat.{_*_, _+_, _≤_, ℕ}
-use lib.ListN.{length}
+use Prim.Native.Nat.{_*_, _+_, _<_, _^_, _≤_, ℕ}
+use lib.ListN.{getD, length}
 use lib.Seq.{sets}
 use Rattle.circuit.specs.Gate.{Gate, bytesOf}
-use Rattle.circuit.specs.Limits.{gateBytes}
+use Rattle.circuit.specs.Limits.{gateBytes, maxWires, parities}
+use Rattle.circuit.specs.Sound.{SoundRows, SoundWeights}
+use Rattle.synth.specs.Writing.{lack, nextMasks, surplus, writeParity, writePhases, writeRows}
+use Rattle.synth.specs.declared.masks.Step.{Step}
 
 -- bytes g have room for these gates after k others
 abbrev pub Room : List ℕ → ℕ → List Gate → Type 0
@@ -15,3 +18,33 @@ Room g k new = gateBytes * (k + length new) ≤ length g
 pub record Stored (g g′ : List ℕ) (k k′ : ℕ) (new : List Gate) : Type 0 where
   pub count : k′ ≡ k + length new
   pub bytes : g′ ≡ sets g (gateBytes * k) (bytesOf new)
+
+-- ---- the weights
+
+-- bytes g have room for weight v at parity p, after k gates
+pub record ParityReady (g : List ℕ) (k n p v : ℕ) : Type 0 where
+  pub few : n ≤ maxWires
+  pub inside : p < parities
+  pub small : v < 8
+  pub none : p ≡ 0 → v ≡ 0
+  pub room : Room g k (writeParity maxWires n p v)
+
+-- and for all weights, from the first byte on
+pub record PhasesReady (g : List ℕ) (n : ℕ) (w : List ℕ) : Type 0 where
+  pub few : n ≤ maxWires
+  pub sound : SoundWeights parities n w
+  pub room : Room g 0 (writePhases maxWires n w (2 ^ n))
+
+-- ---- the rows
+
+-- and for the rows, after k gates
+pub record RowsReady (g : List ℕ) (k n : ℕ) (rows : List ℕ) : Type 0 where
+  pub few : n ≤ maxWires
+  pub sound : SoundRows maxWires n rows
+  pub room : Room g k (writeRows n rows)
+
+-- the row of wire r with pivot b, from these masks: what the CNOTs go by, and the masks after them
+pub record Stepped (r b : ℕ) (masks : List ℕ) (s : Step) : Type 0 where
+  pub lacks : s .lack ≡ lack r (getD masks r 0)
+  pub loses : s .surplus ≡ surplus r b masks
+  pub leaves : s .masks ≡ nextMasks r b masks

@@ -1,5 +1,6 @@
 -- The list that this crate writes. Document 01 leaves its CNOTs and the order of parities free, so no promise of an entry names this list; the
 -- functions behind the entry do.
+use mathlib.Core.Bool.{Bool}
 use mathlib.Core.List.{_++_, List, [], _∷_, map}
 use Prim.Native.Nat.{_*_, _-_, _^_, suc, zero, ℕ}
 use lib.Bits.{bitXor}
@@ -7,10 +8,15 @@ use lib.Count.{trailingZeros}
 use lib.ListN.{getD}
 use Rattle.gf2.specs.Bit.{bit}
 use Rattle.circuit.specs.Gate.{CNOT, Gate, gate}
+use Rattle.circuit.specs.Read.{either}
 use Rattle.circuit.specs.Sound.{weight}
 use Rattle.synth.specs.Spelling.{spelling}
 
 -- ---- the weights
+
+-- a test of the code, as the bit that it tests
+abbrev pub bitOf : Bool → ℕ
+bitOf c = either c 1 0
 
 -- a CNOT from wire i into wire t, if the bit is set
 unfoldable pub cnotIf : ℕ → ℕ → ℕ → List Gate

@@ -1,36 +1,34 @@
 // The faults of a call that writes a list: 1, 8, 6, then 7 of document 01. Each function gives the fault's number, and 0 where there is none.
 ghost use mathlib.Core.Path.{_≡_};
 ghost use Prim.Native.Nat.{_-_, _^_, _≤_};
-ghost use lib.ListN.{length};
 ghost use Rattle.circuit.specs.Limits.{maxWires, rowCells};
-ghost use Rattle.synth.specs.Faults.{rowMost, beyondFault, cancelFault, rowsFault, writeFault};
+ghost use Rattle.synth.specs.Faults.{Shaped, rowMost, beyondFault, cancelFault, rowsFault, writeFault};
 use crate::masks::copied;
 use crate::masks::pivot_of;
 use crate::masks::row_step;
+use circuit::cells::cell_at;
+use circuit::faults::ROW_RULE;
 use circuit::faults::short_fault;
 use circuit::limits::Parity;
 use circuit::limits::ROW_CELLS;
 use circuit::limits::WRITE_BYTES;
-use weights::faults::call_fault;
-use weights::faults::weights_fault;
-
-pub const ROW_RULE: u8 = 7;
+use circuit::limits::Weight;
+use circuit::table_faults::weights_call_fault;
 
 // The first fault of a call, by the length of the gates lent.
-pub fn write_fault(n: usize, weights: &[u8], rows: &[u8], gates: usize) -> u8
+pub fn write_fault(n: usize, weights: &[Weight], rows: &[Parity], gates: usize) -> u8
     ensures { λ r. ⌜ r ≡ writeFault n (now (weights .entry)) (now (rows .entry)) gates ⌝ }
 {
     let lent = short_fault(gates, WRITE_BYTES);
-    let table = weights_fault(n, weights);
-    let fault = call_fault(n, lent, table);
+    let fault = weights_call_fault(n, lent, weights);
     if fault != 0 {
         return fault;
     }
     rows_fault(n, rows)
 }
 
-// Fault 7: rows that are not 8 bytes, have a bit or row beyond n, or are not invertible.
-fn rows_fault(n: usize, rows: &[u8]) -> u8
+// Fault 7: rows that are not one for each wire there can be, have a bit or row beyond n, or are not invertible.
+fn rows_fault(n: usize, rows: &[Parity]) -> u8
     requires { ⌜ n ≤ maxWires ⌝ }
     ensures { λ r. ⌜ r ≡ rowsFault rowCells n (now (rows .entry)) ⌝ }
 {
@@ -45,13 +43,13 @@ fn rows_fault(n: usize, rows: &[u8]) -> u8
 }
 
 // A bit or row beyond n.
-fn beyond_fault(n: usize, rows: &[u8]) -> u8
+fn beyond_fault(n: usize, rows: &[Parity]) -> u8
     requires { ⌜ n ≤ maxWires ⌝ }
     ensures { λ r. ⌜ r ≡ beyondFault n 0 (now (rows .entry)) ⌝ }
 {
     let mut i: usize = 0;
     while i < rows.len() {
-        if rows[i] > row_most(n, i) {
+        if cell_at(rows, i) > row_most(n, i) {
             return ROW_RULE;
         }
         i += 1;
@@ -72,12 +70,12 @@ fn row_most(n: usize, i: usize) -> Parity
 
 // Dependent rows: some mask, on the way to 2^i, has no pivot.
 fn cancel_fault(n: usize, rows: [Parity; ROW_CELLS]) -> u8
-    requires { ⌜ (n ≤ maxWires) × (length rows ≡ rowCells) × (beyondFault n 0 rows ≡ 0) ⌝ }
+    requires { ⌜ (n ≤ maxWires) × Shaped rowCells n rows ⌝ }
     ensures { λ r. ⌜ r ≡ cancelFault (2 ^ n - 1) rows ⌝ }
 {
     let mut masks = rows;
     for r in 0..n {
-        let b = pivot_of(n, r, masks[r]);
+        let b = pivot_of(n, r, cell_at(&masks, r));
         if b >= n {
             return ROW_RULE;
         }

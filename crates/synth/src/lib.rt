@@ -11,6 +11,8 @@ pub mod rows;
 pub mod spelling;
 pub mod storing;
 
+use circuit::limits::Parity;
+use circuit::limits::Weight;
 use faults::write_fault;
 use masks::copied;
 use phases::write_phases;
@@ -23,7 +25,7 @@ pub enum Written {
 }
 
 // Writes gates for weights and rows into lent bytes, from the first byte on. A refusal leaves them as they were.
-pub fn write(n: usize, weights: &[u8], rows: &[u8], gates: &mut [u8]) -> Written
+pub fn write(n: usize, weights: &[Weight], rows: &[Parity], gates: &mut [u8]) -> Written
     ensures { λ r. ⌜ WriteList n (now (weights .entry)) (now (rows .entry)) (now (gates .entry)) (now (gates .exit)) r ⌝ }
 {
     let fault = write_fault(n, weights, rows, gates.len());
@@ -39,7 +41,7 @@ pub fn write(n: usize, weights: &[u8], rows: &[u8], gates: &mut [u8]) -> Written
 }
 
 // The gates, and their number. Internal: the caller has found no fault. It is public for the trim, which has proved its weights and rows sound.
-pub fn write_sound(n: usize, weights: &[u8], rows: &[u8], gates: &mut [u8]) -> usize
+pub fn write_sound(n: usize, weights: &[Weight], rows: &[Parity], gates: &mut [u8]) -> usize
     requires { ⌜ Writable n (now weights) (now rows) (length (now gates)) ⌝ }
     ensures { λ r. ⌜ WroteBytes n (now (weights .entry)) (now (rows .entry)) (now (gates .entry)) (now (gates .exit)) r ⌝ }
 {

@@ -2,21 +2,24 @@
 // Internal: the caller has found no fault.
 ghost use mathlib.Core.Path.{_≡_};
 ghost use Prim.Native.Nat.{_*_, _<_, _≤_};
-ghost use lib.ListN.{length, getD};
+ghost use lib.ListN.{length};
 ghost use Rattle.circuit.specs.Limits.{maxWires, rowCells};
-ghost use Rattle.synth.specs.Writing.{recount, pivot, lack, surplus, nextMasks};
+ghost use Rattle.synth.specs.Storing.{Stepped};
+ghost use Rattle.synth.specs.Writing.{bitOf, lack, pivot, recount};
+use circuit::cells::cell_at;
+use circuit::cells::put_cell;
+use circuit::copying::copy_parities;
 use circuit::limits::Parity;
 use circuit::limits::ROW_CELLS;
+use circuit::parity::unit;
 
-// The masks start as the rows: eight lent bytes, as a value.
-pub fn copied(rows: &[u8]) -> [Parity; ROW_CELLS]
+// The masks start as the rows: the lent cells, as a value.
+pub fn copied(rows: &[Parity]) -> [Parity; ROW_CELLS]
     requires { ⌜ length (now rows) ≡ rowCells ⌝ }
     ensures { λ r. ⌜ r ≡ now (rows .entry) ⌝ }
 {
     let mut masks = [0 as Parity; ROW_CELLS];
-    for i in 0..ROW_CELLS {
-        masks[i] = rows[i];
-    }
+    copy_parities(rows, &mut masks);
     masks
 }
 
@@ -30,11 +33,11 @@ pub struct Step {
 // The row of wire r, with pivot b.
 pub fn row_step(masks: [Parity; ROW_CELLS], r: usize, b: usize) -> Step
     requires { ⌜ (r < maxWires) × (b < maxWires) × (length masks ≡ rowCells) ⌝ }
-    ensures { λ s. ⌜ (s .lack ≡ lack r (getD masks r 0)) × (s .surplus ≡ surplus r b masks) × (s .masks ≡ nextMasks r b masks) ⌝ }
+    ensures { λ s. ⌜ Stepped r b masks s ⌝ }
 {
-    let q = lack_of(r, masks[r]);
+    let q = lack_of(r, cell_at(&masks, r));
     let full = recount_masks(masks, b, q);
-    let p = full[r] ^ (1 << r);
+    let p = cell_at(&full, r) ^ unit(r);
     Step {
         lack: q,
         surplus: p,
@@ -62,7 +65,7 @@ fn lack_of(r: usize, m: Parity) -> Parity
     requires { ⌜ r < maxWires ⌝ }
     ensures { λ q. ⌜ q ≡ lack r m ⌝ }
 {
-    if (m >> r) % 2 == 1 { 0 } else { 1 << r }
+    if (m >> r) % 2 == 1 { 0 } else { unit(r) }
 }
 
 // The masks after CNOTs into wire t from the wires of q.
@@ -72,15 +75,15 @@ fn recount_masks(masks: [Parity; ROW_CELLS], t: usize, q: Parity) -> [Parity; RO
 {
     let mut s = masks;
     for i in 0..ROW_CELLS {
-        s[i] = s[i] ^ only_if((s[i] >> t) % 2, q);
+        let m = cell_at(&masks, i);
+        put_cell(&mut s, i, m ^ only_if((m >> t) % 2 == 1, q));
     }
     s
 }
 
 // q if the bit is set, else 0.
-fn only_if(c: u8, q: Parity) -> Parity
-    requires { ⌜ c < 2 ⌝ }
-    ensures { λ r. ⌜ r ≡ c * q ⌝ }
+fn only_if(c: bool, q: Parity) -> Parity
+    ensures { λ r. ⌜ r ≡ bitOf c * q ⌝ }
 {
-    if c == 0 { 0 } else { q }
+    if c { q } else { 0 }
 }

@@ -1,27 +1,25 @@
 // Writing the rows. Internal: the caller has found no fault.
-ghost use Prim.Native.Nat.{_≤_};
-ghost use Rattle.circuit.specs.Limits.{maxWires};
-ghost use Rattle.circuit.specs.Sound.{SoundRows};
-ghost use Rattle.synth.specs.Storing.{Room, Stored};
+ghost use Rattle.synth.specs.Storing.{RowsReady, Stored};
 ghost use Rattle.synth.specs.Writing.{writeRows};
 use crate::masks::pivot_of;
 use crate::masks::row_step;
-use crate::storing::gather;
+use crate::storing::push_cnots;
+use circuit::cells::cell_at;
 use circuit::limits::Parity;
 use circuit::limits::ROW_CELLS;
 
 // The rows, after k gates.
 pub fn write_rows(gates: &mut [u8], k: usize, n: usize, rows: [Parity; ROW_CELLS]) -> usize
-    requires { ⌜ (n ≤ maxWires) × SoundRows maxWires n rows × Room (now gates) k (writeRows n rows) ⌝ }
+    requires { ⌜ RowsReady (now gates) k n rows ⌝ }
     ensures { λ r. ⌜ Stored (now (gates .entry)) (now (gates .exit)) k r (writeRows n rows) ⌝ }
 {
     let mut masks = rows;
     let mut j = k;
     for r in 0..n {
-        let b = pivot_of(n, r, masks[r]);
+        let b = pivot_of(n, r, cell_at(&masks, r));
         let s = row_step(masks, r, b);
-        let filled = gather(gates, j, n, s.lack, b as u8);
-        j = gather(gates, filled, n, s.surplus, r as u8);
+        let filled = push_cnots(gates, j, n, s.lack, b as u8);
+        j = push_cnots(gates, filled, n, s.surplus, r as u8);
         masks = s.masks;
     }
     j

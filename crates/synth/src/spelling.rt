@@ -5,17 +5,12 @@ ghost use Rattle.circuit.specs.Gate.{gate};
 ghost use Rattle.synth.specs.Storing.{Room, Stored};
 ghost use Rattle.synth.specs.Writing.{spell};
 use crate::storing::push;
+use circuit::gates::S;
+use circuit::gates::S_DAGGER;
+use circuit::gates::T;
+use circuit::gates::T_DAGGER;
+use circuit::gates::Z;
 use circuit::limits::Weight;
-
-pub const T: u8 = 2;
-
-pub const S: u8 = 3;
-
-pub const Z: u8 = 4;
-
-pub const S_DAGGER: u8 = 5;
-
-pub const T_DAGGER: u8 = 6;
 
 // Weight 1 to 7 as T; S; S T; Z; Z T; S dagger; T dagger, on wire t.
 pub fn spell_out(gates: &mut [u8], k: usize, v: Weight, t: u8) -> usize

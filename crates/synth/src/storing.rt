@@ -5,11 +5,10 @@ ghost use Prim.Native.Nat.{_≤_};
 ghost use Rattle.circuit.specs.Gate.{gate};
 ghost use Rattle.circuit.specs.Limits.{maxWires};
 ghost use Rattle.synth.specs.Storing.{Room, Stored};
-ghost use Rattle.synth.specs.Writing.{cnotIf, cnots};
+ghost use Rattle.synth.specs.Writing.{bitOf, cnotIf, cnots};
+use circuit::gates::CNOT;
 use circuit::limits::GATE_BYTES;
 use circuit::limits::Parity;
-
-pub const CNOT: u8 = 1;
 
 // One gate.
 pub fn push(gates: &mut [u8], k: usize, kind: u8, a: u8, b: u8) -> usize
@@ -24,24 +23,21 @@ pub fn push(gates: &mut [u8], k: usize, kind: u8, a: u8, b: u8) -> usize
 }
 
 // A CNOT into wire t from each wire that q names.
-pub fn gather(gates: &mut [u8], k: usize, n: usize, q: Parity, t: u8) -> usize
+pub fn push_cnots(gates: &mut [u8], k: usize, n: usize, q: Parity, t: u8) -> usize
     requires { ⌜ (n ≤ maxWires) × Room (now gates) k (cnots n q t) ⌝ }
     ensures { λ r. ⌜ Stored (now (gates .entry)) (now (gates .exit)) k r (cnots n q t) ⌝ }
 {
     let mut j = k;
     for i in 0..n {
-        j = cnot_if(gates, j, (q >> i) % 2, i as u8, t);
+        j = cnot_if(gates, j, (q >> i) % 2 == 1, i as u8, t);
     }
     j
 }
 
 // A CNOT from wire i into wire t, if the bit is set.
-fn cnot_if(gates: &mut [u8], k: usize, c: u8, i: u8, t: u8) -> usize
-    requires { ⌜ Room (now gates) k (cnotIf c i t) ⌝ }
-    ensures { λ r. ⌜ Stored (now (gates .entry)) (now (gates .exit)) k r (cnotIf c i t) ⌝ }
+fn cnot_if(gates: &mut [u8], k: usize, c: bool, i: u8, t: u8) -> usize
+    requires { ⌜ Room (now gates) k (cnotIf (bitOf c) i t) ⌝ }
+    ensures { λ r. ⌜ Stored (now (gates .entry)) (now (gates .exit)) k r (cnotIf (bitOf c) i t) ⌝ }
 {
-    if c == 0 {
-        return k;
-    }
-    push(gates, k, CNOT, i, t)
+    if c { push(gates, k, CNOT, i, t) } else { k }
 }

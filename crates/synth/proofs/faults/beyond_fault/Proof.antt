@@ -16,37 +16,31 @@ Inv-loop n rows i₀ i = (i ≤ length rows) × (beyondFault n i (drop i rows) �
 abbrev μ-loop : tie.MeasureT-loop
 μ-loop n rows i₀ i = length rows - i
 
-loop-holds : tie.Need-loop-holds Inv-loop μ-loop
-loop-holds c = search needs
-
-shared-slice-read-if1 : tie.Need-shared-slice-read-if1 Inv-loop μ-loop
-shared-slice-read-if1 c = search needs
-
-row-most-requires : tie.Need-row-most-requires Inv-loop μ-loop
-row-most-requires c κs = search needs
-
 returns : tie.Need-returns Inv-loop μ-loop
 returns c =
-    let at-loop : tie.At-loop Inv-loop μ-loop = search in
-    let at = at-loop in
-    let a = at .before .before .args in
-    row-bad (a .n) (at .loop .i) (now (a .rows)) (omega arith) (omega (arith, c .before .row-most .ensures)) ∙ at .loop .inv .1
-
-add-i : tie.Need-add-i Inv-loop μ-loop
-add-i c = search needs
-
-loop-less : tie.Need-loop-less Inv-loop μ-loop
-loop-less c = search needs
+    let most : tie.After-row-most Inv-loop μ-loop = search in
+    let x : tie.After-cell-at Inv-loop μ-loop = search in
+    let at : tie.At-loop Inv-loop μ-loop = search in
+    let s : tie.Start Inv-loop μ-loop = search in
+    row-bad (s .args .n) (at .loop .i) (now (s .args .rows)) (omega arith) (omega (arith, most .row-most .ensures, x .cell-at .ensures))
+    ∙ at .loop .inv .1
 
 loop-again : tie.Need-loop-again Inv-loop μ-loop
 loop-again c =
-    let at-loop : tie.At-loop Inv-loop μ-loop = search in
-    let at = at-loop in
-    let a = at .before .before .args in
-    (search needs, row-good (a .n) (at .loop .i) (now (a .rows)) (omega arith) (omega (arith, c .before .row-most .ensures)) ∙ at .loop .inv .1)
+    let most : tie.After-row-most Inv-loop μ-loop = search in
+    let x : tie.After-cell-at Inv-loop μ-loop = search in
+    let at : tie.At-loop Inv-loop μ-loop = search in
+    let s : tie.Start Inv-loop μ-loop = search in (
+      search needs,
+      row-good (s .args .n) (at .loop .i) (now (s .args .rows)) (omega arith) (omega (arith, most .row-most .ensures, x .cell-at .ensures))
+          ∙ at .loop .inv .1,
+    )
 
 returns-2 : tie.Need-returns-2 Inv-loop μ-loop
-returns-2 c = let at = c .before in let a = at .before .before .args in row-end (a .n) (at .loop .i) (now (a .rows)) (omega arith) ∙ at .loop .inv .1
+returns-2 c =
+    let at : tie.At-loop Inv-loop μ-loop = search in
+    let s : tie.Start Inv-loop μ-loop = search in
+    row-end (s .args .n) (at .loop .i) (now (s .args .rows)) (omega arith) ∙ at .loop .inv .1
 
 pub beyond-fault-spec : {M : Type 1} → statement M
 beyond-fault-spec =
@@ -54,11 +48,11 @@ beyond-fault-spec =
     (tie.spec
     Inv-loop
     μ-loop
-    loop-holds
-    shared-slice-read-if1
-    row-most-requires
+    (λ c. search needs)
+    (λ c κs. search needs)
+    (λ c κs. search needs)
     returns
-    add-i
-    loop-less
+    (λ c. search needs)
+    (λ c. search needs)
     loop-again
     returns-2)

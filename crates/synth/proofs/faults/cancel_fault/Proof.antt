@@ -1,13 +1,14 @@
 -- After r rows the masks combine the rows that the wires would hold to the rows given.
 use mathlib.Core.List.{List}
-use mathlib.Core.Path.{subst, _≡_}
+use mathlib.Core.Path.{_≡_}
 use Prim.Native.Nat.{_-_, ℕ, _≤_}
 use native.Mathlib.Omega.{arith}
+use lib.ListN.{length}
 use borrow.Author.Needs.{needs}
-use Rattle.circuit.specs.Limits.{maxWires}
+use Rattle.circuit.specs.Limits.{maxWires, rowCells}
 use Rattle.circuit.specs.Read.{firstRows}
 use Rattle.synth.proofs.MaskSteps.{Going, going-start}
-use Rattle.synth.proofs.RowRule.{dependent-fault, independent-clear, shaped}
+use Rattle.synth.proofs.RowRule.{dependent-fault, independent-clear}
 use Rattle.synth.proofs.RowTurns.{going-more}
 use Rattle.synth.proofs.RowsWritten.{going-ends, going-stops}
 use Rattle.synth.proofs.faults.cancel_fault.Statement.{statement}
@@ -21,61 +22,44 @@ abbrev μ-loop : tie.MeasureT-loop
 
 loop-holds : tie.Need-loop-holds Inv-loop μ-loop
 loop-holds c =
-    let b = c in
-    let a = b .args in
-    let s = shaped maxWires (a .n) (a .rows) (b .pre .1) (b .pre .2) in
-    (search needs, (firstRows maxWires (a .n), going-start maxWires (a .n) (a .rows) (b .pre .0) (s .long) (s .within)))
+    let s : tie.Start Inv-loop μ-loop = search in
+    (search needs, (firstRows maxWires (s .args .n), going-start maxWires _ _ (s .pre .0) (s .pre .1 .long) (s .pre .1 .within)))
 
-array-read-pivot-of : tie.Need-array-read-pivot-of Inv-loop μ-loop
-array-read-pivot-of c = omega (arith, c .before .loop .inv .1 .1 .wide, c .before .before .pre .0)
-
-pivot-of-requires : tie.Need-pivot-of-requires Inv-loop μ-loop
-pivot-of-requires c κs = search needs
+-- there are as many masks as rows
+wide : (h : tie.At-loop Inv-loop μ-loop) → length (h .loop .masks) ≡ rowCells
+wide h = h .loop .inv .1 .1 .wide
 
 returns : tie.Need-returns Inv-loop μ-loop
 returns c =
-    let at-loop : tie.At-loop Inv-loop μ-loop = search in
-    let at = at-loop in
-    let b = at .before in
-    let a = b .args in
-    let h = at .loop .inv .1 in
-    dependent-fault (a .n) (a .rows)
-    (going-stops maxWires (a .n) (b .pre .0) (a .rows) (at .loop .r) (at .loop .masks) (h .0) (omega arith) (h .1) (rw (c .before .pivot-of .ensures) at (c .if1 .taken)))
+    let t : tie.Then1 Inv-loop μ-loop = search in
+    let p : tie.After-pivot-of Inv-loop μ-loop = search in
+    let m : tie.After-cell-at Inv-loop μ-loop = search in
+    let h : tie.At-loop Inv-loop μ-loop = search in
+    let s : tie.Start Inv-loop μ-loop = search in
+    dependent-fault (s .args .n) _
+    (going-stops (h .loop .inv .1 .1) (omega arith) (rw (p .pivot-of .ensures, m .cell-at .ensures) at (t .if1 .taken)))
 
 row-step-requires : tie.Need-row-step-requires Inv-loop μ-loop
 row-step-requires c κs =
-    let at-loop : tie.At-loop Inv-loop μ-loop = search in
-    let at = at-loop in let b = at .before in (omega (arith, b .pre .0), omega (arith, b .pre .0), at .loop .inv .1 .1 .wide)
-
-add-r : tie.Need-add-r Inv-loop μ-loop
-add-r c = search needs
-
-loop-less : tie.Need-loop-less Inv-loop μ-loop
-loop-less c = search needs
+    let s : tie.Start Inv-loop μ-loop = search in
+    (omega (arith, s .pre .0), omega (arith, s .pre .0), wide (search))
 
 loop-again : tie.Need-loop-again Inv-loop μ-loop
 loop-again c =
-    let after-pivot-of : tie.After-pivot-of Inv-loop μ-loop = search in
-    let at-loop : tie.At-loop Inv-loop μ-loop = search in
-    let at = at-loop in
-    let b = at .before in
-    let a = b .args in
-    let h = at .loop .inv .1 in
-    let p = after-pivot-of .pivot-of in
-    let s = c .before .row-step in (
-      search needs,
-      going-more (a .n) (at .loop .r) (a .rows) (at .loop .masks) (h .0) (s .result .masks) (b .pre .0) (omega arith) (h .1) (p .result) (p .ensures) (omega arith) (s .ensures .2),
-    )
+    let r : tie.After-row-step Inv-loop μ-loop = search in
+    let p : tie.After-pivot-of Inv-loop μ-loop = search in
+    let m : tie.After-cell-at Inv-loop μ-loop = search in
+    let h : tie.At-loop Inv-loop μ-loop = search in
+    let s : tie.Start Inv-loop μ-loop = search in
+    let em = m .cell-at .ensures in
+    (search needs, (_, going-more (h .loop .inv .1 .1) (omega arith) (s .pre .0) em (p .pivot-of .ensures) (omega arith) (r .row-step .ensures)))
 
 returns-2 : tie.Need-returns-2 Inv-loop μ-loop
 returns-2 c =
-    let at = c .before in
-    let b = at .before in
-    let a = b .args in
-    let s = shaped maxWires (a .n) (a .rows) (b .pre .1) (b .pre .2) in
-    let h = at .loop .inv .1 in
-    let e : at .loop .r ≡ a .n = omega arith in
-    independent-clear (a .n) (a .rows) (going-ends maxWires (a .n) (b .pre .0) (a .rows) (s .long) (s .beyond) (at .loop .masks) (h .0) (subst (λ (r : ℕ). Going maxWires (a .n) r (a .rows) (at .loop .masks) (h .0)) e (h .1)))
+    let h : tie.At-loop Inv-loop μ-loop = search in
+    let s : tie.Start Inv-loop μ-loop = search in
+    let e : h .loop .r ≡ s .args .n = omega arith in
+    independent-clear (s .args .n) _ (going-ends (s .pre .1) (rw e at (h .loop .inv .1 .1)))
 
 pub cancel-fault-spec : {M : Type 1} → statement M
 cancel-fault-spec =
@@ -84,11 +68,12 @@ cancel-fault-spec =
     Inv-loop
     μ-loop
     loop-holds
-    array-read-pivot-of
-    pivot-of-requires
+    (λ c. search (needs, wide (search)))
+    (λ c κs. search (needs, wide (search)))
+    (λ c κs. search needs)
     returns
     row-step-requires
-    add-r
-    loop-less
+    (λ c. search needs)
+    (λ c. search needs)
     loop-again
     returns-2)

@@ -5,23 +5,14 @@ use Rattle.synth.proofs.RowTurns.{lack-none, lack-wire}
 use Rattle.synth.proofs.masks.lack_of.Statement.{statement}
 use Rattle.synth.proofs.masks.lack_of.Tie as tie
 
-cast-if1 : tie.Need-cast-if1
-cast-if1 c = search needs
-
-shr-if1 : tie.Need-shr-if1
-shr-if1 c = search needs
-
-cast-result : tie.Need-cast-result
-cast-result c = search needs
-
-shl-result : tie.Need-shl-result
-shl-result c = search needs
-
 returns : tie.Need-returns
-returns c = lack-none (c .before .args .r) (c .before .args .m) (omega arith)
+returns c = let s : tie.Start = search in lack-none (s .args .r) (s .args .m) (omega arith)
 
 returns-2 : tie.Need-returns-2
-returns-2 c = lack-wire (c .before .args .r) (c .before .args .m) (c .before .pre) (omega arith)
+returns-2 c =
+    let u : tie.After-unit = search in
+    let s : tie.Start = search in
+    lack-wire (s .args .r) (s .args .m) _ (u .unit .ensures) (omega arith)
 
 pub lack-of-spec : {M : Type 1} → statement M
-lack-of-spec = tie.close (tie.spec cast-if1 shr-if1 cast-result shl-result returns returns-2)
+lack-of-spec = tie.close (tie.spec (λ c. search needs) (λ c. search needs) (λ c κs. search needs) returns returns-2)

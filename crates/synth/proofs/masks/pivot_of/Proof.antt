@@ -14,29 +14,23 @@ Inv-loop n r m b₀ b = (r ≤ b) × (b ≤ n) × (pivotFrom (n - b) b m ≡ piv
 abbrev μ-loop : tie.MeasureT-loop
 μ-loop n r m b₀ b = n - b
 
-loop-holds : tie.Need-loop-holds Inv-loop μ-loop
-loop-holds c = search needs
-
-cast-if1 : tie.Need-cast-if1 Inv-loop μ-loop
-cast-if1 c = search needs
-
-shr-if1 : tie.Need-shr-if1 Inv-loop μ-loop
-shr-if1 c = search needs
-
 returns : tie.Need-returns Inv-loop μ-loop
-returns c = let at = c .before .before in let a = at .before .args in pivot-here (a .n) (at .loop .b) (a .m) (omega arith) (omega arith) ∙ at .loop .inv .2
-
-add-b : tie.Need-add-b Inv-loop μ-loop
-add-b c = search needs
-
-loop-less : tie.Need-loop-less Inv-loop μ-loop
-loop-less c = search needs
+returns c =
+    let at : tie.At-loop Inv-loop μ-loop = search in
+    let s : tie.Start Inv-loop μ-loop = search in
+    pivot-here (s .args .n) (at .loop .b) (s .args .m) (omega arith) (omega arith) ∙ at .loop .inv .2
 
 loop-again : tie.Need-loop-again Inv-loop μ-loop
-loop-again c = let at = c .before .before in let a = at .before .args in (search needs, search needs, pivot-later (a .n) (at .loop .b) (a .m) (omega arith) (omega arith) ∙ at .loop .inv .2)
+loop-again c =
+    let at : tie.At-loop Inv-loop μ-loop = search in
+    let s : tie.Start Inv-loop μ-loop = search in
+    (search needs, search needs, pivot-later (s .args .n) (at .loop .b) (s .args .m) (omega arith) (omega arith) ∙ at .loop .inv .2)
 
 returns-2 : tie.Need-returns-2 Inv-loop μ-loop
-returns-2 c = let at = c .before in let a = at .before .args in pivot-end (a .n) (at .loop .b) (a .m) (omega arith) ∙ at .loop .inv .2
+returns-2 c =
+    let at : tie.At-loop Inv-loop μ-loop = search in
+    let s : tie.Start Inv-loop μ-loop = search in
+    pivot-end (s .args .n) (at .loop .b) (s .args .m) (omega arith) ∙ at .loop .inv .2
 
 pub pivot-of-spec : {M : Type 1} → statement M
 pivot-of-spec =
@@ -44,11 +38,11 @@ pivot-of-spec =
     (tie.spec
     Inv-loop
     μ-loop
-    loop-holds
-    cast-if1
-    shr-if1
+    (λ c. search needs)
+    (λ c. search needs)
+    (λ c. search needs)
     returns
-    add-b
-    loop-less
+    (λ c. search needs)
+    (λ c. search needs)
     loop-again
     returns-2)

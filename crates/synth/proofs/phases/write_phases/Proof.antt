@@ -1,13 +1,11 @@
 -- The parities below p are written.
-use mathlib.Core.Path.{ap, _∙_, _≡_}
-use Prim.Native.Nat.{_-_, _^_, ℕ, _≤_}
+use mathlib.Core.Path.{_≡_}
+use Prim.Native.Nat.{_-_, _^_, _≤_}
 use native.Mathlib.Omega.{arith}
 use borrow.Author.Needs.{needs}
-use denote.Ref.{now}
 use Rattle.circuit.proofs.Steps.{shifted}
-use Rattle.circuit.specs.Limits.{maxWires}
-use Rattle.circuit.specs.Sound.{weight}
-use Rattle.synth.proofs.PhaseTurns.{parities-fit, phases-first, phases-room, phases-turn}
+use Rattle.circuit.specs.Limits.{maxWires, parities}
+use Rattle.synth.proofs.PhaseTurns.{parities-fit, parity-ready, phases-first, phases-turn}
 use Rattle.synth.proofs.Stores.{stored-same}
 use Rattle.synth.specs.Storing.{Stored}
 use Rattle.synth.specs.Writing.{writePhases}
@@ -20,61 +18,44 @@ Inv-loop gates₀ n weights k₀ p₀ p-end gates k p = (p ≤ p-end) × (p-end 
 abbrev μ-loop : tie.MeasureT-loop
 μ-loop gates₀ n weights k₀ p₀ p-end gates k p = p-end - p
 
-shl-p-end : tie.Need-shl-p-end Inv-loop μ-loop
-shl-p-end c = search needs
-
 loop-holds : tie.Need-loop-holds Inv-loop μ-loop
-loop-holds c = let a = c .before .before .args in (search needs, shifted 64 (a .n) (omega (arith, c .before .before .pre .0)), phases-first (now (a .gates)) (a .n) (now (a .weights)))
+loop-holds c =
+    let s : tie.Start Inv-loop μ-loop = search in
+    (search needs, shifted 64 (s .args .n) (omega (arith, s .pre .few)), phases-first _ _ _)
+
+-- n wires have no more parities than there are
+fit : (s : tie.Start Inv-loop μ-loop) → 2 ^ (s .args .n) ≤ parities
+fit s = parities-fit (s .args .n) (s .pre .few)
 
 cast-write-parity : tie.Need-cast-write-parity Inv-loop μ-loop
-cast-write-parity c =
-    let start : tie.Start Inv-loop μ-loop = search in
-    let b = start in omega (arith, parities-fit (b .args .n) (b .pre .0))
+cast-write-parity c = omega (arith, fit (search))
 
 shared-slice-read-write-parity : tie.Need-shared-slice-read-write-parity Inv-loop μ-loop
 shared-slice-read-write-parity c =
-    let start : tie.Start Inv-loop μ-loop = search in
-    let b = start in omega (arith, parities-fit (b .args .n) (b .pre .0), b .pre .1 .long)
+    let s : tie.Start Inv-loop μ-loop = search in
+    omega (arith, fit s, s .pre .sound .long)
 
 write-parity-requires : tie.Need-write-parity-requires Inv-loop μ-loop
 write-parity-requires c κs =
-    let at-loop : tie.At-loop Inv-loop μ-loop = search in
-    let start : tie.Start Inv-loop μ-loop = search in
-    let at = at-loop in
-    let b = start in
-    let a = b .args in
-    let w = now (a .weights) in (
-      b .pre .0,
-      b .pre .1 .small (at .loop .p),
-      λ e. ap (λ (p : ℕ). weight w p) e ∙ b .pre .1 .none,
-      phases-room (now (a .gates)) (at .loop .gates) (at .loop .k) (a .n) (at .loop .p) w (at .loop .inv .2) (omega arith) (b .pre .2),
-    )
-
-add-p : tie.Need-add-p Inv-loop μ-loop
-add-p c = search needs
-
-loop-less : tie.Need-loop-less Inv-loop μ-loop
-loop-less c = search needs
+    let at : tie.At-loop Inv-loop μ-loop = search in
+    let s : tie.Start Inv-loop μ-loop = search in
+    parity-ready _ _ _ (at .loop .inv .2) (s .pre) (omega arith)
 
 loop-again : tie.Need-loop-again Inv-loop μ-loop
 loop-again c =
-    let at-loop : tie.At-loop Inv-loop μ-loop = search in
-    let start : tie.Start Inv-loop μ-loop = search in
-    let at = at-loop in
-    let a = start .args in
-    let u = c .before .before .write-parity in (
-      search needs,
-      at .loop .inv .1,
-      phases-turn (now (a .gates)) (at .loop .gates) (at .loop .k) (a .n) (at .loop .p) (now (a .weights)) (at .loop .inv .2) _ (u .result) (u .ensures),
-    )
+    let u : tie.After-write-parity Inv-loop μ-loop = search in
+    let at : tie.At-loop Inv-loop μ-loop = search in
+    (search needs, at .loop .inv .1, phases-turn _ _ _ (at .loop .inv .2) (u .write-parity .ensures))
 
 same-length : tie.Need-same-length Inv-loop μ-loop
-same-length c = let at = c .before in stored-same _ _ _ _ _ (at .loop .inv .2)
+same-length c = let at : tie.At-loop Inv-loop μ-loop = search in stored-same (at .loop .inv .2)
 
 returns : tie.Need-returns Inv-loop μ-loop
 returns c =
-    let start : tie.Start Inv-loop μ-loop = search in
-    let at = c .before in let a = start .args in let e : at .loop .p ≡ 2 ^ (a .n) = omega arith in rw (← e) (at .loop .inv .2)
+    let at : tie.At-loop Inv-loop μ-loop = search in
+    let s : tie.Start Inv-loop μ-loop = search in
+    let e : at .loop .p ≡ 2 ^ (s .args .n) = omega arith in
+    rw (← e) (at .loop .inv .2)
 
 pub write-phases-spec : {M : Type 1} → statement M
 write-phases-spec =
@@ -82,13 +63,13 @@ write-phases-spec =
     (tie.spec
     Inv-loop
     μ-loop
-    shl-p-end
+    (λ c. search needs)
     loop-holds
     cast-write-parity
     shared-slice-read-write-parity
     write-parity-requires
-    add-p
-    loop-less
+    (λ c. search needs)
+    (λ c. search needs)
     loop-again
     same-length
     returns)

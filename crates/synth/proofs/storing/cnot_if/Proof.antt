@@ -1,28 +1,33 @@
 -- By the bit.
-use native.Mathlib.Omega.{arith}
+use mathlib.Core.Bool.{false, true}
+use mathlib.Core.Path.{_≡_}
 use borrow.Author.Needs.{needs}
-use denote.Ref.{now}
-use Rattle.synth.proofs.PhaseTurns.{cnot-none, cnot-one}
+use Rattle.synth.proofs.Stores.{stored-none}
+use Rattle.synth.specs.Writing.{cnotIf}
 use Rattle.synth.proofs.storing.cnot_if.Statement.{statement}
 use Rattle.synth.proofs.storing.cnot_if.Tie as tie
 
-returns : tie.Need-returns
-returns c = let a = c .before .before .args in cnot-none (now (a .gates)) (a .k) (a .c) (a .i) (a .t) (omega arith)
-
 push-requires : tie.Need-push-requires
+unfolding cnotIf
 push-requires c κs =
-    let start : tie.Start = search in
-    let a = start .args in rw (cnot-one (a .c) (a .i) (a .t) (omega arith)) at (start .pre)
+    let s : tie.Start = search in
+    let e : s .args .c ≡ true = search in
+    rw e at (s .pre)
 
-same-length : tie.Need-same-length
-same-length c = search needs
+returns : tie.Need-returns
+unfolding cnotIf
+returns c =
+    let p : tie.After-push = search in
+    let s : tie.Start = search in
+    let e : s .args .c ≡ true = search in
+    rw e (p .push .ensures)
 
 returns-2 : tie.Need-returns-2
+unfolding cnotIf
 returns-2 c =
-    let else1 : tie.Else1 = search in
-    let start : tie.Start = search in
-    let a = start .args in
-    rw (cnot-one (a .c) (a .i) (a .t) (omega (arith, else1 .if1 .left))) (c .before .before .push .ensures)
+    let s : tie.Start = search in
+    let e : s .args .c ≡ false = search in
+    rw e (stored-none _ _)
 
 pub cnot-if-spec : {M : Type 1} → statement M
-cnot-if-spec = tie.close (tie.spec returns push-requires same-length returns-2)
+cnot-if-spec = tie.close (tie.spec push-requires (λ c. search needs) returns returns-2)
