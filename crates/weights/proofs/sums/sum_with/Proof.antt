@@ -26,10 +26,10 @@ abbrev Shared : Type 0
 Shared = tie.After-share Inv-loop μ-loop
 
 abbrev head : Shared → tie.At-loop Inv-loop μ-loop
-head t = t .before .before .before
+head t = search
 
 abbrev entry : Shared → tie.Start Inv-loop μ-loop
-entry t = head t .before .before
+entry t = search
 
 turn : (t : Shared)
     → let a = entry t .args in Turn (now (a .w)) (a .i) (a .j) (a .k) (head t .loop .p) (head t .loop .s) (t .share .result)
