@@ -7,4 +7,3 @@ pub mod Decide
 pub mod Product
 pub mod Kappa
 pub mod Pair
-pub mod Search

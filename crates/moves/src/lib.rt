@@ -1,8 +1,6 @@
 // Legal moves on an odd set (document 01, "Legal moves"): what they are, that a move keeps the signature and makes the odd set smaller,
 // how few members are left where none is legal, and when a pair of members has one. Definitions in specs/; proofs/Laws states the theorems.
-// The code beside it flips one mark, and tells what a search has found.
-ghost use mathlib.Core.Path.{_≡_};
-ghost use Rattle.moves.specs.Search.{isFound};
+// The code beside it flips one mark, and names what a search may find.
 
 pub mod marks;
 
@@ -12,13 +10,4 @@ pub enum Sought {
     Found,
     // No move is legal, and the cells are as they were.
     Nothing,
-}
-
-pub fn is_found(sought: Sought) -> bool
-    ensures { λ r. ⌜ r ≡ isFound sought ⌝ }
-{
-    match sought {
-        Sought::Found => true,
-        Sought::Nothing => false,
-    }
 }

@@ -1,16 +1,14 @@
 -- What the calls for each move ask for and leave: what was searched on all wires holds on n, and the cells found have the form of a move.
-use mathlib.Core.Bool.{false, true}
 use mathlib.Core.List.{List}
-use mathlib.Core.Path.{_≡_, refl}
+use mathlib.Core.Path.{_≡_}
 use Prim.Native.Nat.{ℕ}
-use native.Mathlib.Omega.{arith}
 use Rattle.carry.proofs.Conditions.{legal-said}
-use Rattle.circuit.specs.Limits.{maxMembers}
+use Rattle.circuit.specs.Limits.{maxMembers, maxWires, parities}
 use Rattle.finder.proofs.OnWires.{searched-legal, searched-none}
 use Rattle.finder.specs.Search.{Searched}
+use Rattle.moves.proofs.Wires.{legal-wires}
 use Rattle.moves.specs.Log.{LegalCells, MoveForm}
 use Rattle.moves.specs.Move.{NoneLegal}
-use Rattle.moves.specs.Search.{isFound}
 use Rattle.moves.specs.declared.Sought.{Sought}
 use Rattle.moves.specs.declared.Sought.the-variants.{Found, Nothing}
 use Rattle.trimmer.specs.Steps.{Marked, NextMove}
@@ -19,23 +17,27 @@ use Rattle.trimmer.specs.Steps.{Marked, NextMove}
 pub legal-form : {n : ℕ} {marks cells : List ℕ} → LegalCells maxMembers n marks cells → MoveForm maxMembers cells
 legal-form {n} {marks} {cells} f = legal-said maxMembers n marks cells f .0
 
-pub searched-next : {n : ℕ} {marks was cells : List ℕ} → Marked n marks → (found : Sought) → Searched marks was cells found
+-- and the move is legal on all wires, on which `carry` takes it
+pub legal-everywhere : {n : ℕ} {marks cells : List ℕ} → Marked n marks → LegalCells maxMembers n marks cells
+    → LegalCells maxMembers maxWires marks cells
+legal-everywhere {n} {marks} m f =
+    record {
+      z = f .z;
+      Y = f .Y;
+      is = f .is;
+      legal = legal-wires parities n maxWires maxMembers marks (m .few) (m .sound) (f .z) (f .Y) .0 (f .legal);
+    }
+
+pub searched-next : {n : ℕ} {marks : List ℕ} (was cells : List ℕ) → Marked n marks → (found : Sought) → Searched marks was cells found
     → NextMove n marks found cells
-searched-next {n} {marks} {was} {cells} m Found s = searched-legal n (m .few) marks (m .sound) cells s
-searched-next {n} {marks} {was} {cells} m Nothing s = searched-none n (m .few) marks (m .sound) (s .1)
+searched-next {n} {marks} was cells m Found s = searched-legal n (m .few) marks (m .sound) cells s
+searched-next {n} {marks} was cells m Nothing s = searched-none n (m .few) marks (m .sound) (s .1)
 
 -- ---- what the loop's test tells
-
-pub found-is : (found : Sought) → isFound found ≡ true → found ≡ Found
-found-is Found e = refl
-found-is Nothing e = let z : _≡_ {A = ℕ} 0 1 = cc in absurd (omega arith)
-
-pub nothing-is : (found : Sought) → isFound found ≡ false → found ≡ Nothing
-nothing-is Found e = let z : _≡_ {A = ℕ} 0 1 = cc in absurd (omega arith)
-nothing-is Nothing e = refl
 
 pub next-legal : {n : ℕ} {marks cells : List ℕ} {found : Sought} → found ≡ Found → NextMove n marks found cells → LegalCells maxMembers n marks cells
 next-legal e m = rw e at m
 
-pub next-none : {n : ℕ} {marks cells : List ℕ} {found : Sought} → found ≡ Nothing → NextMove n marks found cells → NoneLegal maxMembers n marks
-next-none e m = rw e at m
+pub next-none : {n : ℕ} {marks : List ℕ} (cells : List ℕ) {found : Sought} → found ≡ Nothing → NextMove n marks found cells
+    → NoneLegal maxMembers n marks
+next-none cells e m = rw e at m

@@ -12,7 +12,6 @@ use circuit::limits::Mark;
 use circuit::limits::MoveCell;
 use circuit::limits::TABLE_BYTES;
 use moves::Sought;
-use moves::is_found;
 
 // The marks after the moves so far and their number, and what a search found for these marks.
 pub struct Moving {
@@ -28,13 +27,16 @@ pub fn make_moves(n: usize, first: [Mark; TABLE_BYTES], log: &mut [MoveCell]) ->
     ensures { λ r. ⌜ AllMade n first (now (log .entry)) (r .count) (r .marks) (now (log .exit)) ⌝ }
 {
     let mut s = before_moves(n, first);
-    while is_found(s.found) {
+    loop {
+        let found = s.found;
+        if let Sought::Nothing = found {
+            return s;
+        }
         let cells = s.cells;
         let k = s.count;
         put_parities(&cells, log, MOVE_CELLS * k);
         s = make_move(n, s);
     }
-    s
 }
 
 // No move made yet.
@@ -43,11 +45,12 @@ fn before_moves(n: usize, first: [Mark; TABLE_BYTES]) -> Moving
     ensures { λ r. ⌜ (r .marks ≡ first) × (r .count ≡ 0) × NextMove n (r .marks) (r .found) (r .cells) ⌝ }
 {
     let next = next_move(n, first);
+    let found = next.found;
     let cells = next.cells;
     Moving {
         marks: first,
         count: 0,
-        found: next.found,
+        found: found,
         cells: cells,
     }
 }
@@ -61,11 +64,12 @@ fn make_move(n: usize, s: Moving) -> Moving
     let cells = s.cells;
     let left = moved(n, marks, cells);
     let next = next_move(n, left);
+    let found = next.found;
     let more = next.cells;
     Moving {
         marks: left,
         count: s.count + 1,
-        found: next.found,
+        found: found,
         cells: more,
     }
 }

@@ -2,10 +2,38 @@
 use mathlib.Core.Path.{_∙_, ap₂}
 use borrow.Author.Needs.{needs}
 use denote.Ref.{now}
+use Rattle.carry.proofs.Ways.{may-carry}
 use Rattle.moves.specs.CarryOut.{carryOut}
-use Rattle.trimmer.proofs.Calls.{legal-form}
+use Rattle.trimmer.proofs.Calls.{legal-everywhere, legal-form}
 use Rattle.trimmer.proofs.steps.moved.Statement.{statement}
 use Rattle.trimmer.proofs.steps.moved.Tie as tie
 
+set-of-requires : tie.Need-set-of-requires
+set-of-requires c κs = let s : tie.Start = search in legal-form (s .pre .1)
+
+carry-requires : tie.Need-carry-requires
+carry-requires c κs =
+    let y : tie.After-set-of = search in
+    let z : tie.After-cell-at = search in
+    let s : tie.Start = search in
+    may-carry (legal-everywhere (s .pre .0) (s .pre .1)) (s .pre .0 .sound .long) (z .cell-at .ensures) (y .set-of .ensures)
+
+returns : tie.Need-returns
+returns c =
+    let m : tie.After-carry = search in
+    let y : tie.After-set-of = search in
+    let z : tie.After-cell-at = search in
+    let s : tie.Start = search in
+    m .carry .ensures ∙ ap₂ (carryOut (s .args .marks)) (z .cell-at .ensures) (y .set-of .ensures)
+
 pub moved-spec : {M : Type 1} → statement M
-moved-spec = tie.close (tie.spec ?)
+moved-spec =
+    tie.close
+    (tie.spec
+    (λ c. search needs)
+    (λ c κs. search needs)
+    (λ c. search needs)
+    (λ c. search needs)
+    set-of-requires
+    carry-requires
+    returns)
