@@ -16,7 +16,7 @@ use Rattle.gf2.proofs.Basis.{inserted-none, inserted-slot}
 use Rattle.gf2.proofs.Echelon.{step-lt}
 use Rattle.gf2.specs.Echelon.{Reached, Shape, Stopped}
 use Rattle.gf2.specs.Over.{Below}
-use Rattle.echelon.specs.Slots.{LeadingBit, Puts, SlotMembers, Slots}
+use Rattle.echelon.specs.Slots.{LeadingBit, Puts, Slots}
 
 -- ---- the leading bit, from the count of zeros above it in a word of w + 1 bits
 

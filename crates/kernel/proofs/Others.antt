@@ -1,15 +1,14 @@
 -- The members other than a and b go into the slots, one after another; in the end they are all the others.
 use mathlib.Core.List.{List}
 use mathlib.Core.Logic.{_≢_, _⊎_, inl, inr}
-use mathlib.Core.Path.{_∙_, _≡_, ap, refl, sym}
+use mathlib.Core.Path.{_∙_, _≡_, ap, sym}
 use Prim.Native.Nat.{_+_, ℕ}
 use native.Mathlib.Decide.{ℕ-discrete}
 use native.Mathlib.Omega.{arith}
-use lib.ListN.{getD, length-replicate}
+use lib.ListN.{getD, getD-replicate, length, length-replicate, replicate}
 use Rattle.circuit.specs.Limits.{maxWires, productBits}
 use Rattle.echelon.specs.Slots.{Puts, Slots}
 use Rattle.gf2.proofs.Basis.{basis-more, basis-none, basis-same}
-use Rattle.gf2.proofs.Table.{getD-zeros}
 use Rattle.moves.specs.Kappa.{kappa}
 use Rattle.kernel.specs.Answers.{Built, Empty}
 use Rattle.kernel.specs.Members.{Others}
@@ -33,8 +32,11 @@ module _ {ys : List ℕ} {a b z t : ℕ} {vec mask member : List ℕ} where
   built-none e =
       rw (e .vecs, e .masks, e .members) (record {
         basis = basis-none productBits (kappa maxWires z t) (Others 0 ys a b) (λ y o. omega (arith, o .before));
-        members = record { long = length-replicate {A = ℕ} productBits 0; below = λ s l. rw (getD-zeros productBits s) (omega arith) };
+        members = record { long = long; below = λ s l. rw (getD-replicate {A = ℕ} productBits s 0 0 (omega (arith, long))) (omega arith) };
       })
+    where
+      long : length (replicate {A = ℕ} productBits 0) ≡ productBits
+      long = length-replicate {A = ℕ} productBits 0
 
   -- the tables of a basis have the form that code asks of them
   pub built-slots : {k : ℕ} → Built k ys a b z t vec mask member → Slots vec mask member

@@ -1,4 +1,4 @@
--- What is left of v is below 2 ^ productBits, and the slots taken off it give the rest of v; what is left falls at each turn.
+-- What is left of v is below 2 ^ productBits, and the slots taken off it make up the difference; what is left falls at each turn.
 use mathlib.Core.Path.{_≡_}
 use Prim.Native.Nat.{_<_, _^_}
 use native.Mathlib.Omega.{arith}
