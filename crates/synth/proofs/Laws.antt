@@ -36,15 +36,14 @@ pub sound-is-written : (N n : ℕ) → n ≤ N → (w rows : List ℕ) → Sound
     → (gs : List Gate) × Wrote N n w rows gs
 sound-is-written N n fit w rows sw sr = (writeList N n w rows, list-written N n fit w rows sw sr)
 
--- where the gates at each parity are its weight's spelling, the gates of each kind are counted: for any accepted list, from the reading's
--- start
+-- where the gates at each parity are its weight's spelling, the gates of each kind are counted: for any accepted list, read from the start
 pub kinds-are-counted : (N n : ℕ) → n ≤ N → (kind v : ℕ) → kindOf kind ≡ Phase v → (gs : List Gate) → AllWellFormed n gs
     → gatesOfKind kind gs ≡ sum (2 ^ n) (λ p. occurs kind (kindsAt p gs (start N n)))
 kinds-are-counted N n fit kind v e gs f = kinds-total kind v e N n fit gs (start N n) f (start-sound N n fit)
 
 -- ---- demand 1: the reply of `write`
 
--- fault 7 exactly where the rows are not sound: not 8, with a bit or row beyond n, or not invertible
+-- fault 7 exactly where the rows are not sound: another number of them, a bit or row beyond n, or not invertible
 pub no-fault-sound-rows : (n : ℕ) (rows : List ℕ) → (rowsFault rowCells n rows ≡ 0) ↔ SoundRows maxWires n rows
 no-fault-sound-rows n rows = rows-sound rowCells n rows
 

@@ -1,5 +1,5 @@
--- One parity: CNOTs into its lowest wire, the spelling, the same CNOTs. The rows come back, and the weight is added at the parity. Over n
--- and N.
+-- One parity: CNOTs into its lowest wire, the spelling, the same CNOTs. The rows come back, and the weight is added at the parity.
+-- Over n and N.
 use mathlib.Core.List.{_++_, List, [], append-nil}
 use mathlib.Core.Logic.{_≢_}
 use mathlib.Core.Path.{ap, ap₂, refl, sym, _∙_, _≡_}

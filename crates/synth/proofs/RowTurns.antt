@@ -100,8 +100,7 @@ going-more {n} {r} {m} {b} h inside fit em eb l st = rw (add-one r, st .leaves) 
 
 -- ---- writing the rows
 
--- what the loop knows after r rows: the wires hold rows that the masks combine to those wanted, and the gates stored so far are the first
--- of all
+-- what the loop knows after r rows: the wires hold rows that the masks combine to those wanted, and the gates stored so far come first
 pub record RowLoop (n r : ℕ) (rows masks g g′ : List ℕ) (k j : ℕ) : Type 0 where
   pub held : List ℕ
   pub going : Going maxWires n r rows masks held

@@ -1,5 +1,5 @@
--- What is written for sound weights and rows: it reads back exactly, spells each weight, and has at most n * 2^n + n * n gates. Over n and
--- N.
+-- What is written for sound weights and rows: it reads back exactly, spells each weight, and has at most n * 2^n + n * n gates.
+-- Over n and N.
 use mathlib.Core.List.{List, append-nil}
 use mathlib.Core.Path.{ap, ap₂, refl, sym, _∙_, _≡_}
 use Prim.Native.Nat.{_+_, _^_, ℕ, _≤_}
