@@ -1,5 +1,5 @@
--- All parities in turn: reading gives exactly the weights and changes nothing else, each weight is spelled at its parity, and there are at most
--- n * 2^n gates. Over n and N.
+-- All parities in turn: reading gives exactly the weights and changes nothing else, each weight is spelled at its parity, and there are at
+-- most n * 2^n gates. Over n and N.
 use mathlib.Core.List.{_++_, List, [], append-nil}
 use mathlib.Core.Logic.{_≢_}
 use mathlib.Core.Path.{ap, refl, sym, _∙_, _≡_}
@@ -89,7 +89,8 @@ module _ (N n : ℕ) (fit : n ≤ N) (w : List ℕ) (sound : SoundWeights (2 ^ N
   pub phases-read-back : read N n (writePhases N n w (2 ^ n)) ≡ withWeights w (start N n)
   unfolding after
   phases-read-back =
-      h .else ∙ ap (λ (u : List ℕ). withWeights u (start N n)) (ext-getD 0 (after (2 ^ n) .weights) w (h .long) (λ p l. at p (decLt p (2 ^ n))))
+      h .else
+      ∙ ap (λ (u : List ℕ). withWeights u (start N n)) (ext-getD 0 (after (2 ^ n) .weights) w (h .long) (λ p l. at p (decLt p (2 ^ n))))
     where
       h : Passed N n w (2 ^ n) (after (2 ^ n))
       h = passed (2 ^ n) (le-refl (2 ^ n))
@@ -172,7 +173,12 @@ module _ (N n : ℕ) (fit : n ≤ N) (w : List ℕ) (sound : SoundWeights (2 ^ N
   unfolding writePhases sum
   length-below zero l = omega arith
   length-below (suc k) l =
-      omega (arith, length-append (writePhases N n w k) (writeParity N n k (weight w k)), length-below k (omega arith), one (ℕ-discrete k 0))
+      omega (
+        arith,
+        length-append (writePhases N n w k) (writeParity N n k (weight w k)),
+        length-below k (omega arith),
+        one (ℕ-discrete k 0),
+      )
     where
       none : (p : ℕ) → length (writeParity N n p 0) ≡ 0
       none p = unfold writeParity in refl

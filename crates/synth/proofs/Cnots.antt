@@ -1,4 +1,5 @@
--- CNOTs into one wire from the wires of a mask: what reading them does, how many they are, that they are well formed, and that no phase is added.
+-- CNOTs into one wire from the wires of a mask: what reading them does, how many they are, that they are well formed, and that no phase is
+-- added.
 use mathlib.Core.List.{List, []}
 use mathlib.Core.Logic.{_≢_}
 use mathlib.Core.Path.{_≡_, ap, ap₂, refl, sym, _∙_}
@@ -46,7 +47,8 @@ module _ (t : ℕ) (r : Reading) (low : t < length (r .rows)) where
   into : ℕ → Reading
   into x = withRows (set (r .rows) t (bitXor (row r t) x)) r
 
-  one-reads : (c k m : ℕ) → c < 2 → (c ≡ 1 → k ≢ t) → readFrom (cnotIf c k t) (into (combine m (r .rows))) ≡ into (bitXor (combine m (r .rows)) (c * row r k))
+  one-reads : (c k m : ℕ) → c < 2 → (c ≡ 1 → k ≢ t)
+      → readFrom (cnotIf c k t) (into (combine m (r .rows))) ≡ into (bitXor (combine m (r .rows)) (c * row r k))
   unfolding into cnotIf readFrom readKind kindOf
   one-reads zero k m l ne = ap into (sym (ap (bitXor (combine m (r .rows))) (zero-mul (row r k)) ∙ xor-zero-r (combine m (r .rows))))
   one-reads (suc zero) k m l ne =

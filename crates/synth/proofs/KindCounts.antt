@@ -1,4 +1,5 @@
--- Gates counted by kind. In an accepted list each phase gate adds at one parity below 2^n, so the gates of a kind are those at each parity, summed.
+-- Gates counted by kind. In an accepted list each phase gate adds at one parity below 2^n, so the gates of a kind are those at each parity,
+-- summed.
 use mathlib.Core.List.{_++_, List, [], _∷_}
 use mathlib.Core.Path.{_≡_, ap, refl, sym, _∙_}
 use Prim.Native.Nat.{_+_, _<_, _^_, ℕ, _≤_}
@@ -16,7 +17,7 @@ use Rattle.synth.specs.Spelling.{gatesOfKind, kindHere, kindsAt, occurs}
 use Rattle.circuit.specs.declared.gates.Kind.{Kind}
 use Rattle.circuit.specs.declared.gates.Kind.the-variants.{Cnot, Phase, Unknown}
 
-pub occurs-append : (kind : ℕ) (xs ys : List ℕ) → occurs kind (xs ++ ys) ≡ occurs kind xs + occurs kind ys
+occurs-append : (kind : ℕ) (xs ys : List ℕ) → occurs kind (xs ++ ys) ≡ occurs kind xs + occurs kind ys
 unfolding occurs
 occurs-append kind [] ys = omega arith
 occurs-append kind (x ∷ xs) ys = omega (arith, occurs-append kind xs ys)
@@ -28,7 +29,8 @@ t-by-kind (gate kind a b ∷ gs) = omega (arith, t-by-kind gs)
 
 module _ (kind v : ℕ) (phase : kindOf kind ≡ Phase v) where
   -- one gate, on a wire that holds q
-  here-total : (n q k a b : ℕ) (K : Kind) → q < 2 ^ n → kindOf k ≡ K → KindWellFormed n K a b → sum (2 ^ n) (λ p. occurs kind (kindHere K (eqb q p) k)) ≡ delta kind k
+  here-total : (n q k a b : ℕ) (K : Kind) → q < 2 ^ n → kindOf k ≡ K → KindWellFormed n K a b
+      → sum (2 ^ n) (λ p. occurs kind (kindHere K (eqb q p) k)) ≡ delta kind k
   unfolding occurs
   here-total n q k a b Cnot h e f = sum-zero (2 ^ n) ∙ sym (delta-other kind k (λ s. never (ap kindOf s)))
     where

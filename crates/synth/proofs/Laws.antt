@@ -32,17 +32,18 @@ use Rattle.synth.specs.declared.Written.the-variants.{Done, Refused}
 -- ---- demand 2: a list written from sound weights and rows reads back as exactly those. For every n and N
 
 -- there is such a list, of at most n * 2^n + n * n gates, in which each weight is spelled as document 01 says: the fields of Wrote
-pub sound-is-written : (N n : ℕ) → n ≤ N → (w rows : List ℕ) → SoundWeights (2 ^ N) n w → SoundRows N n rows → (gs : List Gate) × Wrote N n w rows gs
+pub sound-is-written : (N n : ℕ) → n ≤ N → (w rows : List ℕ) → SoundWeights (2 ^ N) n w → SoundRows N n rows
+    → (gs : List Gate) × Wrote N n w rows gs
 sound-is-written N n fit w rows sw sr = (writeList N n w rows, list-written N n fit w rows sw sr)
 
--- where the gates at each parity are its weight's spelling, the gates of each kind are counted: for any accepted list, from the reading's start
+-- where the gates at each parity are its weight's spelling, the gates of each kind are counted: for any accepted list, read from the start
 pub kinds-are-counted : (N n : ℕ) → n ≤ N → (kind v : ℕ) → kindOf kind ≡ Phase v → (gs : List Gate) → AllWellFormed n gs
     → gatesOfKind kind gs ≡ sum (2 ^ n) (λ p. occurs kind (kindsAt p gs (start N n)))
 kinds-are-counted N n fit kind v e gs f = kinds-total kind v e N n fit gs (start N n) f (start-sound N n fit)
 
 -- ---- demand 1: the reply of `write`
 
--- fault 7 exactly where the rows are not sound: not 8, with a bit or row beyond n, or not invertible
+-- fault 7 exactly where the rows are not sound: another number of them, a bit or row beyond n, or not invertible
 pub no-fault-sound-rows : (n : ℕ) (rows : List ℕ) → (rowsFault rowCells n rows ≡ 0) ↔ SoundRows maxWires n rows
 no-fault-sound-rows n rows = rows-sound rowCells n rows
 
@@ -52,7 +53,8 @@ no-fault-writable n w rows gates = (fault-ready n w rows gates, ready-faultless 
 
 module _ (n : ℕ) (w rows g g′ : List ℕ) where
   -- nothing sound is refused
-  pub writable-is-written : (r : Written) → WriteList n w rows g g′ r → Writable n w rows (length g) → (count : ℕ) × (r ≡ Done count) × WroteBytes n w rows g g′ count
+  pub writable-is-written : (r : Written) → WriteList n w rows g g′ r → Writable n w rows (length g)
+      → (count : ℕ) × (r ≡ Done count) × WroteBytes n w rows g g′ count
   writable-is-written (Done count) x a = (count, refl, x .gates-left)
   writable-is-written (Refused number place) x a =
       let e : Refused number place ≡ Done 0 = x .reply ∙ ap (λ (f : ℕ). writeReply f 0) (ready-faultless n w rows (length g) a) in
@@ -84,7 +86,8 @@ module _ (n : ℕ) (w rows g g′ : List ℕ) (count : ℕ) (x : WriteList n w r
   -- run on a basis state, the gates bring it where the rows say, with the phase that the weights say
   pub written-runs : (s : ℕ) → s < 2 ^ n → run (frontGates count g′) s ≡ says n (readingLent w rows) s
   written-runs s l =
-      read-runs maxWires n few (frontGates count g′) (x .gates-left .list .formed) s l ∙ ap (λ (r : Reading). says n r s) (x .gates-left .list .reads)
+      let d = x .gates-left .list in
+      read-runs maxWires n few (frontGates count g′) (d .formed) s l ∙ ap (λ (r : Reading). says n r s) (d .reads)
 
   -- the reader of the same gates gives back the weights and rows
   pub written-reads-back : readBytes n (take (gateBytes * count) g′) ≡ readingLent w rows

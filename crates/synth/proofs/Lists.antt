@@ -17,5 +17,6 @@ pub kinds-append : (p : ℕ) (xs ys : List Gate) (r : Reading) → kindsAt p (xs
 unfolding kindsAt readFrom
 kinds-append p [] ys r = refl
 kinds-append p (gate kind a b ∷ xs) ys r =
-    ap (λ (ks : List ℕ). kindHere (kindOf kind) (eqb (row r a) p) kind ++ ks) (kinds-append p xs ys (readGate (gate kind a b) r))
-    ∙ sym (append-assoc (kindHere (kindOf kind) (eqb (row r a) p) kind) (kindsAt p xs (readGate (gate kind a b) r)) (kindsAt p ys (readFrom xs (readGate (gate kind a b) r))))
+    let here : List ℕ = kindHere (kindOf kind) (eqb (row r a) p) kind in
+    let r′ : Reading = readGate (gate kind a b) r in
+    ap (λ (ks : List ℕ). here ++ ks) (kinds-append p xs ys r′) ∙ sym (append-assoc here (kindsAt p xs r′) (kindsAt p ys (readFrom xs r′)))

@@ -1,8 +1,8 @@
--- Bringing masks to 2^i, row by row. The invariant after r rows: the combination that mask i names, of the parities that the wires hold, is row i;
--- and the masks passed are 2^j. Over n and N.
+-- Bringing masks to 2^i, row by row. The invariant after r rows: the combination that mask i names, of the parities that the wires hold, is
+-- row i; and the masks passed are 2^j. Over n and N.
 use mathlib.Core.List.{List, map}
 use mathlib.Core.Logic.{inl, inr, _≢_, _⊎_}
-use mathlib.Core.Path.{ap, ap₂, sym, _∙_, _≡_}
+use mathlib.Core.Path.{ap, sym, _∙_, _≡_}
 use Prim.Native.Nat.{_%_, _*_, _+_, _-_, _<_, _^_, suc, zero, ℕ, _≤_}
 use native.Mathlib.Decide.{decLt, ℕ-discrete}
 use native.Mathlib.Nat.{le-refl, one-mul, zero-mul}
@@ -79,7 +79,8 @@ gather-keeps {N} {n} {r} {wanted} {masks} {held} fit h t q lo hi less off =
       small = λ i l. rw (recount-at t q i masks) (carry-lt n t q (getD masks i 0) less (h .small i l));
       past = λ j l. recount-at t q j masks ∙ ap (carry t q) (h .past j l) ∙ unmoved j (omega arith);
       beyond = λ i l. getD-set-other held t i v 0 (omega arith) ∙ h .beyond i l;
-      free = λ s ne l e. h .free (carry t q s) (carry-nonzero t q off s ne) (carry-lt n t q s less l) (sym (combine-gather s t q held low) ∙ e);
+      free = λ s ne l e. h .free (carry t q s) (carry-nonzero t q off s ne) (carry-lt n t q s less l)
+          (sym (combine-gather s t q held low) ∙ e);
     }
   where
     v : ℕ
@@ -168,7 +169,8 @@ between r b masks held = gather b (lack r (getD masks r 0)) held
 abbrev pub heldAfter : ℕ → ℕ → List ℕ → List ℕ → List ℕ
 heldAfter r b masks held = gather r (surplus r b masks) (between r b masks held)
 
-module _ {N n r : ℕ} {wanted masks held : List ℕ} (fit : n ≤ N) (h : Going N n r wanted masks held) {b : ℕ} (p : Names n r (getD masks r 0) b) where
+module _ {N n r b : ℕ} {wanted masks held : List ℕ} (fit : n ≤ N) (h : Going N n r wanted masks held)
+    (p : Names n r (getD masks r 0) b) where
   abbrev m : ℕ
   m = getD masks r 0
 

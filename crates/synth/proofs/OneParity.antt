@@ -1,4 +1,5 @@
--- One parity: CNOTs into its lowest wire, the spelling, the same CNOTs. The rows come back, and the weight is added at the parity. Over n and N.
+-- One parity: CNOTs into its lowest wire, the spelling, the same CNOTs. The rows come back, and the weight is added at the parity.
+-- Over n and N.
 use mathlib.Core.List.{_++_, List, [], append-nil}
 use mathlib.Core.Logic.{_≢_}
 use mathlib.Core.Path.{ap, ap₂, refl, sym, _∙_, _≡_}
@@ -6,7 +7,7 @@ use Prim.Native.Nat.{_%_, _*_, _+_, _<_, _^_, suc, zero, ℕ, _≤_}
 use native.Mathlib.Nat.{le-refl}
 use native.Mathlib.Omega.{arith}
 use lib.Bits.{bitXor, xor-comm, xor-lt}
-use lib.ListN.{getD, length, length-append, length-set}
+use lib.ListN.{length, length-append, length-set}
 use lib.Pow.{pow-lt, pow-mono}
 use lib.Seq.{getD-set-same}
 use Rattle.circuit.proofs.Sound.{combine-first-rows, first-row, length-first, read-append}
@@ -57,7 +58,7 @@ module _ {n q t p : ℕ} {r : Reading} (b : Brought n q t p r) where
       read-cnots t (added v held) (rw (length-set (r .rows) t (bitXor (row r t) (combine q (r .rows)))) (b .low)) n q (b .less) (b .off)
       ∙ ap (λ (rows : List ℕ). withRows rows (added v held)) (gather-twice t q (b .off) (r .rows) (b .low))
 
-  read-around : (v : ℕ) → v < 7 → p < length (r .weights) → readFrom (around n q t (suc v)) r ≡ withWeights (addAt 8 (r .weights) p (suc v)) r
+  read-around : (v : ℕ) → v < 7 → p < length (r .weights) → readFrom (around n q t (suc v)) r ≡ added (suc v) r
   unfolding around held added
   read-around v small l =
       read-append (cnots n q t) (spell (suc v) t ++ cnots n q t) r ∙ ap (readFrom (spell (suc v) t ++ cnots n q t)) in-between
@@ -127,7 +128,7 @@ module _ (N n p : ℕ) (fit : n ≤ N) (some : p ≢ 0) (less : p < 2 ^ n) where
     pub read-parity : (v : ℕ) → v < 7 → p < length (r .weights)
         → readFrom (writeParity N n p (suc v)) r ≡ withWeights (addAt 8 (r .weights) p (suc v)) r
     unfolding writeParity
-    read-parity v h l = read-around brought v h l
+    read-parity v h l = unfold added in read-around brought v h l
 
     pub parity-here : (v : ℕ) → v < 8 → kindsAt p (writeParity N n p v) r ≡ spelling v
     unfolding writeParity kindsAt spelling

@@ -82,7 +82,7 @@ parity-parts n p zero t q h et eq = absurd (h refl)
 parity-parts n p (suc v) t q h et eq = rw (et, eq)
 
 -- CNOTs, the spelling, CNOTs: there is room for each, and together they are the parity. Wire t is the lowest of p, and u its own parity
-module _ {g : List ℕ} {k n p v : ℕ} (ready : ParityReady g k n p v) (some : v ≢ 0) {t u : ℕ} (et : t ≡ lowest maxWires p) (eu : u ≡ 2 ^ t) where
+module _ {g : List ℕ} {k n p v t u : ℕ} (ready : ParityReady g k n p v) (some : v ≢ 0) (et : t ≡ lowest maxWires p) (eu : u ≡ 2 ^ t) where
   abbrev bringing : List Gate
   bringing = cnots n (bitXor p u) t
 
@@ -106,7 +106,8 @@ module _ {g : List ℕ} {k n p v : ℕ} (ready : ParityReady g k n p v) (some : 
       pub undo-room : Room g₂ k₂ (cnots n (bitXor p u) t)
       undo-room = room-then b bringing rest
 
-      pub parity-stored : {g₃ : List ℕ} {k₃ : ℕ} → Stored g₂ g₃ k₂ k₃ (cnots n (bitXor p u) t) → Stored g g₃ k k₃ (writeParity maxWires n p v)
+      pub parity-stored : {g₃ : List ℕ} {k₃ : ℕ} → Stored g₂ g₃ k₂ k₃ (cnots n (bitXor p u) t)
+          → Stored g g₃ k k₃ (writeParity maxWires n p v)
       parity-stored d = rw parts (stored-then a (stored-then b d))
 
 -- ---- all parities

@@ -87,7 +87,7 @@ shaped N n rows e f =
     less i (yes l) (yes h) = omega (arith, most i l, most-inside n i h, pow-pos n)
     less i (no g) (yes h) = let z : getD rows i 0 ≡ 0 = List·getD-eq-default rows 0 (omega arith) in omega (arith, pow-pos n)
 
-pub shaped-clear : (N n : ℕ) (rows : List ℕ) → Shaped N n rows → beyondFault n 0 rows ≡ 0
+shaped-clear : (N n : ℕ) (rows : List ℕ) → Shaped N n rows → beyondFault n 0 rows ≡ 0
 shaped-clear N n rows s =
     beyond-none n 0 rows (λ i l. subst (λ (j : ℕ). getD rows i 0 ≤ rowMost n j) (sym (zero-add i)) (at i (decLt i n)))
   where
@@ -142,7 +142,7 @@ module _ (N n : ℕ) (rows : List ℕ) where
   unfolding rowsFault
   other-length h = simp (ne-eqb (length rows) N h)
 
-  pub right-length : length rows ≡ N → orElse (beyondFault n 0 rows) (cancelFault (2 ^ n - 1) rows) ≡ rowsFault N n rows
+  right-length : length rows ≡ N → orElse (beyondFault n 0 rows) (cancelFault (2 ^ n - 1) rows) ≡ rowsFault N n rows
   unfolding rowsFault
   right-length e = simp (eq-eqb (length rows) N e)
 

@@ -48,7 +48,8 @@ recount-next {t} {q} {masks} {s} {s′} {i} {m} {x} h l em ex es =
     entry : bitXor m x ≡ getD (recount t q masks) i 0
     entry = rw (ex, bit-told m t, em) (sym (recount-at t q i masks))
 
-pub recount-last : {t q : ℕ} {masks s : List ℕ} {i : ℕ} → Recounted t q masks s i → length masks ≡ rowCells → rowCells ≤ i → s ≡ recount t q masks
+pub recount-last : {t q : ℕ} {masks s : List ℕ} {i : ℕ} → Recounted t q masks s i → length masks ≡ rowCells → rowCells ≤ i
+    → s ≡ recount t q masks
 recount-last {t} {q} {masks} {s} {i} h long end =
     filled-all s (recount t q masks) i (simp length-recount (omega (arith, h .long))) (simp length-recount (omega arith)) (h .filled)
 
@@ -99,7 +100,7 @@ going-more {n} {r} {m} {b} h inside fit em eb l st = rw (add-one r, st .leaves) 
 
 -- ---- writing the rows
 
--- what the loop knows after r rows: the wires hold rows that the masks combine to those wanted, and the gates stored so far are the first of all
+-- what the loop knows after r rows: the wires hold rows that the masks combine to those wanted, and the gates stored so far come first
 pub record RowLoop (n r : ℕ) (rows masks g g′ : List ℕ) (k j : ℕ) : Type 0 where
   pub held : List ℕ
   pub going : Going maxWires n r rows masks held
@@ -117,7 +118,8 @@ rows-first {g} {k} {n} {rows} ready =
       rest = ap (λ (i : ℕ). rowsFrom n i 0 rows) (sub-zero n);
     }
 
-pub rows-last : {n r : ℕ} {rows masks g g′ : List ℕ} {k j : ℕ} → r ≡ n → RowLoop n r rows masks g g′ k j → Stored g g′ k j (writeRows n rows)
+pub rows-last : {n r : ℕ} {rows masks g g′ : List ℕ} {k j : ℕ} → r ≡ n → RowLoop n r rows masks g g′ k j
+    → Stored g g′ k j (writeRows n rows)
 unfolding rowsFrom
 rows-last {n} {r} {rows} {masks} {g} {g′} {k} {j} e l = subst (λ (gs : List Gate). Stored g g′ k j gs) all (l .stored)
   where
@@ -127,8 +129,9 @@ rows-last {n} {r} {rows} {masks} {g} {g′} {k} {j} e l = subst (λ (gs : List G
     all : l .done ≡ writeRows n rows
     all = sym (append-nil (l .done)) ∙ ap (λ (i : ℕ). l .done ++ rowsFrom n i r masks) none-left ∙ l .rest
 
-module _ {n r : ℕ} {rows masks g g′ : List ℕ} {k j : ℕ} (ready : RowsReady g k n rows) (inside : r < n) (l : RowLoop n r rows masks g g′ k j)
-    {m b : ℕ} (em : m ≡ getD masks r 0) (eb : b ≡ pivot n r m) where
+-- m is mask r, and b its pivot
+module _ {n r : ℕ} {rows masks g g′ : List ℕ} {k j : ℕ} (ready : RowsReady g k n rows) (inside : r < n)
+    (l : RowLoop n r rows masks g g′ k j) {m b : ℕ} (em : m ≡ getD masks r 0) (eb : b ≡ pivot n r m) where
   pub pivot-inside : b < n
   pivot-inside = rw (eb, em) (sound-pivot (ready .sound) (l .going) inside)
 
@@ -148,7 +151,9 @@ module _ {n r : ℕ} {rows masks g g′ : List ℕ} {k j : ℕ} (ready : RowsRea
     whole = ap (λ (gs : List Gate). l .done ++ gs) (sym parts) ∙ l .rest
 
     fits : Room g′ j here
-    fits = room-first g′ j here later (room-then (l .stored) (here ++ later) (subst (λ (gs : List Gate). Room g k gs) (sym whole) (ready .room)))
+    fits =
+        room-first g′ j here later
+        (room-then (l .stored) (here ++ later) (subst (λ (gs : List Gate). Room g k gs) (sym whole) (ready .room)))
 
     pub lack-room : Room g′ j (cnots n (s .lack) b)
     lack-room = room-first g′ j (cnots n (s .lack) b) (cnots n (s .surplus) r) fits

@@ -1,5 +1,5 @@
--- Writing rows: sound rows are brought about by at most n * n CNOTs. Where a mask has no pivot, the rows are dependent; where every mask has one,
--- they are independent. Over n and N.
+-- Writing rows: sound rows are brought about by at most n * n CNOTs. Where a mask has no pivot, the rows are dependent; where every mask
+-- has one, they are independent. Over n and N.
 use mathlib.Core.List.{_++_, List, []}
 use mathlib.Core.Logic.{_≢_}
 use mathlib.Core.Path.{ap, ap₂, refl, subst, sym, _∙_, _≡_}
@@ -74,7 +74,8 @@ module _ {N n r : ℕ} {wanted masks held : List ℕ} (h : Going N n r wanted ma
   pub going-stops : n ≤ pivot n r (getD masks r 0) → Dependent n wanted
   going-stops g = no-pivot N n r wanted masks held h inside (pivot-none n r (getD masks r 0) (omega arith) g)
 
-  pub going-next : n ≤ N → (b : ℕ) → b ≡ pivot n r (getD masks r 0) → b < n → Going N n (suc r) wanted (nextMasks r b masks) (heldAfter r b masks held)
+  pub going-next : n ≤ N → (b : ℕ) → b ≡ pivot n r (getD masks r 0) → b < n
+      → Going N n (suc r) wanted (nextMasks r b masks) (heldAfter r b masks held)
   going-next fit b e l = rw e (row-keeps fit h (pivot-some n r (getD masks r 0) (omega arith) (rw e at l)))
 
 -- all masks are 2 ^ i: the rows are there

@@ -1,5 +1,5 @@
--- The spelling of a weight: phase gates alone, at most two, that add the weight at the parity their wire holds. One of them is T or T dagger
--- where the weight is odd, none where it is even.
+-- The spelling of a weight: phase gates alone, at most two, that add the weight at the parity their wire holds. One of them is T or T
+-- dagger where the weight is odd, none where it is even.
 use mathlib.Core.Bool.{Bool, false, true}
 use mathlib.Core.List.{List, [], map, _∷_}
 use mathlib.Core.Logic.{_≢_}
@@ -38,7 +38,7 @@ spelling-phases (suc (suc (suc (suc (suc (suc (suc (suc v)))))))) l = absurd (om
 
 -- ---- reading
 
-pub addAt-twice : (w : List ℕ) (q x y z : ℕ) → q < length w → x + y ≡ z → addAt 8 (addAt 8 w q x) q y ≡ addAt 8 w q z
+addAt-twice : (w : List ℕ) (q x y z : ℕ) → q < length w → x + y ≡ z → addAt 8 (addAt 8 w q x) q y ≡ addAt 8 w q z
 addAt-twice w q x y z h e =
     let u : ℕ = (getD w q 0 + x) % 8 in
     set-set w q u ((getD (set w q u) q 0 + y) % 8)

@@ -1,4 +1,5 @@
--- What is written for sound weights and rows: it reads back exactly, spells each weight, and has at most n * 2^n + n * n gates. Over n and N.
+-- What is written for sound weights and rows: it reads back exactly, spells each weight, and has at most n * 2^n + n * n gates.
+-- Over n and N.
 use mathlib.Core.List.{List, append-nil}
 use mathlib.Core.Path.{ap, ap₂, refl, sym, _∙_, _≡_}
 use Prim.Native.Nat.{_+_, _^_, ℕ, _≤_}
@@ -43,8 +44,8 @@ module _ (N n : ℕ) (fit : n ≤ N) (w rows : List ℕ) (sw : SoundWeights (2 ^
   reads : read N n gs ≡ readingLent w rows
   unfolding gs
   reads =
-      read-append (writePhases N n w (2 ^ n)) (writeRows n rows) (start N n) ∙ ap (readFrom (writeRows n rows)) (phases-read-back N n fit w sw)
-      ∙ bring .reads (withWeights w (start N n)) refl
+      read-append (writePhases N n w (2 ^ n)) (writeRows n rows) (start N n)
+      ∙ ap (readFrom (writeRows n rows)) (phases-read-back N n fit w sw) ∙ bring .reads (withWeights w (start N n)) refl
 
   short : length gs ≤ writtenGates n
   unfolding gs

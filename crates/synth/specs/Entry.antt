@@ -1,17 +1,17 @@
--- The entry `write`: its reply and what it leaves in the lent gates, for sound and faulty arguments alike. Which CNOTs are used, and the order of
--- parities, are free (document 01, "The new weights"), and so is the number of gates: it is named with what holds of it.
+-- The entry `write`: its reply and what it leaves in the lent gates, for sound and faulty arguments alike. Which CNOTs are used, and the
+-- order of parities, are free (document 01, "The new weights"), and so is the number of gates: it is named with what holds of it.
 use mathlib.Core.List.{List}
 use mathlib.Core.Path.{_≡_}
 use Prim.Native.Nat.{_*_, _≤_, suc, zero, ℕ}
-use lib.ListN.{drop, length, take}
+use lib.ListN.{length, take}
 use Rattle.circuit.specs.Faults.{Accepted, AllWellFormed}
-use Rattle.circuit.specs.Gate.{Gate, gatesOf, kindOf, tGates}
+use Rattle.circuit.specs.Gate.{Gate, kindOf, tGates}
+use Rattle.circuit.specs.Lent.{KeptFrom, frontGates, readingLent}
 use Rattle.circuit.specs.Limits.{gateBytes, maxWires, writtenGates}
 use Rattle.circuit.specs.OddSet.{members, oddSet}
 use Rattle.circuit.specs.Read.{read, start}
 use Rattle.circuit.specs.Sound.{weight}
 use Rattle.circuit.specs.declared.gates.Kind.the-variants.{Phase}
-use Rattle.circuit.specs.Lent.{KeptFrom, frontGates, readingLent}
 use Rattle.synth.specs.Faults.{writeFault}
 use Rattle.synth.specs.Spelling.{gatesOfKind, kindsAt, spelledGates, spelling}
 use Rattle.synth.specs.declared.Written.{Written}

@@ -1,4 +1,5 @@
--- Document 01, "Faults": number 7, of rows, and the checks of a call that writes a list: 1, 8, 6, 7. A fault's number is that of the table; 0 stands for none.
+-- Document 01, "Faults": number 7, of rows, and the checks of a call that writes a list: 1, 8, 6, 7. A fault's number is that of the table;
+-- 0 stands for none.
 use mathlib.Core.List.{List, [], _∷_}
 use mathlib.Core.Path.{_≡_}
 use Prim.Native.Nat.{_-_, _<_, _^_, _≤_, suc, zero, ℕ}

@@ -1,5 +1,5 @@
--- Document 01, "The new weights": "Writing spells weight 1 to 7 as T; S; S T; Z; Z T; S dagger; T dagger." And what it means that a list spells
--- its weights so, whatever its CNOTs and its order of parities are.
+-- Document 01, "The new weights": "Writing spells weight 1 to 7 as T; S; S T; Z; Z T; S dagger; T dagger." And what it means that a list
+-- spells its weights so, whatever its CNOTs and its order of parities are.
 use mathlib.Core.Bool.{Bool, false, true}
 use mathlib.Core.List.{_++_, List, [], _∷_}
 use Prim.Native.Nat.{_+_, ℕ}

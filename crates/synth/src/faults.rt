@@ -1,4 +1,4 @@
-// The faults of a call that writes a list: 1, 8, 6, then 7 of document 01. Each function gives the fault's number, and 0 where there is none.
+// The faults of a call that writes a list: 1, 8, 6, then 7 of document 01. Each function gives the fault's number, or 0 for none.
 ghost use mathlib.Core.Path.{_≡_};
 ghost use Prim.Native.Nat.{_-_, _^_, _≤_};
 ghost use Rattle.circuit.specs.Limits.{maxWires, rowCells};

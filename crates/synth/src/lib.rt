@@ -40,7 +40,8 @@ pub fn write(n: usize, weights: &[Weight], rows: &[Parity], gates: &mut [u8]) ->
     }
 }
 
-// The gates, and their number. Internal: the caller has found no fault. It is public for the trim, which has proved its weights and rows sound.
+// The gates, and their number. Internal: the caller has found no fault. It is public for the trim, which has proved its weights and rows
+// sound.
 pub fn write_sound(n: usize, weights: &[Weight], rows: &[Parity], gates: &mut [u8]) -> usize
     requires { ⌜ Writable n (now weights) (now rows) (length (now gates)) ⌝ }
     ensures { λ r. ⌜ WroteBytes n (now (weights .entry)) (now (rows .entry)) (now (gates .entry)) (now (gates .exit)) r ⌝ }

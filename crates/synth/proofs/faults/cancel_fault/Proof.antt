@@ -51,8 +51,9 @@ loop-again c =
     let m : tie.After-cell-at Inv-loop μ-loop = search in
     let h : tie.At-loop Inv-loop μ-loop = search in
     let s : tie.Start Inv-loop μ-loop = search in
-    let em = m .cell-at .ensures in
-    (search needs, (_, going-more (h .loop .inv .1 .1) (omega arith) (s .pre .0) em (p .pivot-of .ensures) (omega arith) (r .row-step .ensures)))
+    let g = h .loop .inv .1 .1 in
+    let next = going-more g (omega arith) (s .pre .0) (m .cell-at .ensures) (p .pivot-of .ensures) (omega arith) (r .row-step .ensures) in
+    (search needs, (_, next))
 
 returns-2 : tie.Need-returns-2 Inv-loop μ-loop
 returns-2 c =

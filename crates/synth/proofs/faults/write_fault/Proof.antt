@@ -19,7 +19,8 @@ rows-fault-requires c κs =
     let l : tie.After-short-fault = search in
     let s : tie.Start = search in
     let a = s .args in
-    wires-few (a .n) (now (a .weights)) (now (a .rows)) (a .gates) _ _ (l .short-fault .ensures) (f .weights-call-fault .ensures) (omega arith)
+    wires-few (a .n) (now (a .weights)) (now (a .rows)) (a .gates) _ _ (l .short-fault .ensures) (f .weights-call-fault .ensures)
+    (omega arith)
 
 returns-2 : tie.Need-returns-2
 returns-2 c =

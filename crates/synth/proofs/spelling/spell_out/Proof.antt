@@ -1,150 +1,85 @@
 -- Each weight by its spelling.
+use mathlib.Core.List.{List}
 use mathlib.Core.Path.{_≡_}
+use Prim.Native.Nat.{ℕ}
 use native.Mathlib.Omega.{arith}
 use borrow.Author.Needs.{needs}
 use denote.Ref.{now}
 use Rattle.synth.proofs.PhaseTurns.{no-weight-left}
 use Rattle.synth.proofs.Stores.{stored-none}
 use Rattle.synth.specs.Spelling.{spelling}
+use Rattle.synth.specs.Storing.{Room, Stored}
 use Rattle.synth.specs.Writing.{spell}
 use Rattle.synth.proofs.spelling.spell_out.Statement.{statement}
 use Rattle.synth.proofs.spelling.spell_out.Tie as tie
 
-push-requires : tie.Need-push-requires
-unfolding spell spelling
-push-requires c κs =
-    let start : tie.Start = search in
-    let e : start .args .v ≡ 1 = omega arith in rw e at (start .pre .1)
+-- the weight is v: there is room for its gates, and those that are stored are the gates asked for
+module _ (s : tie.Start) (v : ℕ) (e : s .args .v ≡ v) where
+  room : Room (now (s .args .gates)) (s .args .k) (spell v (s .args .t))
+  room = rw e at (s .pre .1)
 
-push-requires-2 : tie.Need-push-requires-2
-unfolding spell spelling
-push-requires-2 c κs =
-    let start : tie.Start = search in
-    let e : start .args .v ≡ 2 = omega arith in rw e at (start .pre .1)
-
-push-two-requires : tie.Need-push-two-requires
-unfolding spell spelling
-push-two-requires c κs =
-    let start : tie.Start = search in
-    let e : start .args .v ≡ 3 = omega arith in rw e at (start .pre .1)
-
-push-requires-3 : tie.Need-push-requires-3
-unfolding spell spelling
-push-requires-3 c κs =
-    let start : tie.Start = search in
-    let e : start .args .v ≡ 4 = omega arith in rw e at (start .pre .1)
-
-push-two-requires-2 : tie.Need-push-two-requires-2
-unfolding spell spelling
-push-two-requires-2 c κs =
-    let start : tie.Start = search in
-    let e : start .args .v ≡ 5 = omega arith in rw e at (start .pre .1)
-
-push-requires-4 : tie.Need-push-requires-4
-unfolding spell spelling
-push-requires-4 c κs =
-    let start : tie.Start = search in
-    let e : start .args .v ≡ 6 = omega arith in rw e at (start .pre .1)
-
-push-requires-5 : tie.Need-push-requires-5
-unfolding spell spelling
-push-requires-5 c κs =
-    let start : tie.Start = search in
-    let e : start .args .v ≡ 7 = omega arith in rw e at (start .pre .1)
-
-same-length : tie.Need-same-length
-same-length c = search needs
+  stored : {g : List ℕ} {k : ℕ} → Stored (now (s .args .gates)) g (s .args .k) k (spell v (s .args .t))
+      → Stored (now (s .args .gates)) g (s .args .k) k (spell (s .args .v) (s .args .t))
+  stored h = rw e h
 
 returns : tie.Need-returns
 unfolding spell spelling
-returns c =
-    let start : tie.Start = search in
-    let e : start .args .v ≡ 1 = omega arith in rw e (c .before .before .push .ensures)
-
-same-length-2 : tie.Need-same-length-2
-same-length-2 c = search needs
+returns c = let p : tie.After-push = search in stored (search) 1 (omega arith) (p .push .ensures)
 
 returns-2 : tie.Need-returns-2
 unfolding spell spelling
-returns-2 c =
-    let start : tie.Start = search in
-    let e : start .args .v ≡ 2 = omega arith in rw e (c .before .before .push2 .ensures)
-
-same-length-3 : tie.Need-same-length-3
-same-length-3 c = search needs
+returns-2 c = let p : tie.After-push2 = search in stored (search) 2 (omega arith) (p .push2 .ensures)
 
 returns-3 : tie.Need-returns-3
 unfolding spell spelling
-returns-3 c =
-    let start : tie.Start = search in
-    let e : start .args .v ≡ 3 = omega arith in rw e (c .before .before .push-two .ensures)
-
-same-length-4 : tie.Need-same-length-4
-same-length-4 c = search needs
+returns-3 c = let p : tie.After-push-two = search in stored (search) 3 (omega arith) (p .push-two .ensures)
 
 returns-4 : tie.Need-returns-4
 unfolding spell spelling
-returns-4 c =
-    let start : tie.Start = search in
-    let e : start .args .v ≡ 4 = omega arith in rw e (c .before .before .push3 .ensures)
-
-same-length-5 : tie.Need-same-length-5
-same-length-5 c = search needs
+returns-4 c = let p : tie.After-push3 = search in stored (search) 4 (omega arith) (p .push3 .ensures)
 
 returns-5 : tie.Need-returns-5
 unfolding spell spelling
-returns-5 c =
-    let start : tie.Start = search in
-    let e : start .args .v ≡ 5 = omega arith in rw e (c .before .before .push-two2 .ensures)
-
-same-length-6 : tie.Need-same-length-6
-same-length-6 c = search needs
+returns-5 c = let p : tie.After-push-two2 = search in stored (search) 5 (omega arith) (p .push-two2 .ensures)
 
 returns-6 : tie.Need-returns-6
 unfolding spell spelling
-returns-6 c =
-    let start : tie.Start = search in
-    let e : start .args .v ≡ 6 = omega arith in rw e (c .before .before .push4 .ensures)
-
-same-length-7 : tie.Need-same-length-7
-same-length-7 c = search needs
+returns-6 c = let p : tie.After-push4 = search in stored (search) 6 (omega arith) (p .push4 .ensures)
 
 returns-7 : tie.Need-returns-7
 unfolding spell spelling
-returns-7 c =
-    let start : tie.Start = search in
-    let e : start .args .v ≡ 7 = omega arith in rw e (c .before .before .push5 .ensures)
+returns-7 c = let p : tie.After-push5 = search in stored (search) 7 (omega arith) (p .push5 .ensures)
 
 returns-8 : tie.Need-returns-8
 unfolding spell spelling
 returns-8 c =
-    let a = c .before .before .args in
-    let e : a .v ≡ 0 = no-weight-left (a .v) (c .before .before .pre .0) (search) (search) (search) (search) (search) (search) (search) in
-    rw e (stored-none (now (a .gates)) (a .k))
+    let s : tie.Start = search in
+    stored s 0 (no-weight-left (s .args .v) (s .pre .0) (search) (search) (search) (search) (search) (search) (search)) (stored-none _ _)
 
 pub spell-out-spec : {M : Type 1} → statement M
+unfolding spell spelling
 spell-out-spec =
     tie.close
     (tie.spec
-    push-requires
-    push-requires-2
-    push-two-requires
-    push-requires-3
-    push-two-requires-2
-    push-requires-4
-    push-requires-5
-    same-length
+    (λ c κs. room (search) 1 (omega arith))
+    (λ c κs. room (search) 2 (omega arith))
+    (λ c κs. room (search) 3 (omega arith))
+    (λ c κs. room (search) 4 (omega arith))
+    (λ c κs. room (search) 5 (omega arith))
+    (λ c κs. room (search) 6 (omega arith))
+    (λ c κs. room (search) 7 (omega arith))
+    (λ c. search needs)
     returns
-    same-length-2
+    (λ c. search needs)
     returns-2
-    same-length-3
+    (λ c. search needs)
     returns-3
-    same-length-4
+    (λ c. search needs)
     returns-4
-    same-length-5
+    (λ c. search needs)
     returns-5
-    same-length-6
+    (λ c. search needs)
     returns-6
-    same-length-7
+    (λ c. search needs)
     returns-7
     returns-8)
