@@ -105,11 +105,16 @@ module _ (n : ℕ) (list : List ℕ) (said : Sayable n list) where
   counts-small formed bytes p =
       let t = p .trimmed in
       let h = t-few (gatesOf list) in
-      let o = odd-set-no-larger maxWires n (said .few) (gatesOf list) formed in
-      (omega (arith, t .t-in, h, few), omega (arith, t .odd-size, o, h, few), omega (arith, t .t-out, t .no-more, h, few), omega (arith, t .afford, o, h, few))
+      let o = odd-set-no-larger maxWires n (said .few) (gatesOf list) formed in (
+        omega (arith, t .t-in, h, few),
+        omega (arith, t .odd-size, o, h, few),
+        omega (arith, t .t-out, t .no-more, h, few),
+        omega (arith, t .afford, o, h, few),
+      )
 
   -- the number and the place of a gate's fault
-  pub fault-small : (number place : ℕ) → firstFault n 0 (gatesOf list) ≡ reply.Refused number place → (number ≤ sameWire) × (place < maxGates)
+  pub fault-small : (number place : ℕ) → firstFault n 0 (gatesOf list) ≡ reply.Refused number place
+      → (number ≤ sameWire) × (place < maxGates)
   fault-small number place e =
       let f = fault-is-first n (gatesOf list) number place e in
       (of-gate (gateAt (gatesOf list) place) (f .has), omega (arith, f .inside, few))

@@ -112,15 +112,17 @@ module _ {n : ℕ} {g list log : List ℕ} (lent : Lent n g list log) where
 
 -- ---- the text, read with room lent for every list
 
-module _ (t gates gates′ : List ℕ) (r : TextReply) (p : ReadText t gates gates′ r) (was left : List ℕ) (next : ℕ) where
-  pub circuit-printed : (n m : ℕ) → r ≡ read.Done n m → Writes-printed (circuit n (take (gateBytes * m) gates′)) was left next → Writes-printed (readText t) was left next
-  circuit-printed n m is w =
+module _ {t gates gates′ : List ℕ} {r : TextReply} (p : ReadText t gates gates′ r) {was left : List ℕ} {next : ℕ} where
+  pub circuit-printed : {n m : ℕ} → r ≡ read.Done n m → Writes-printed (circuit n (take (gateBytes * m) gates′)) was left next
+      → Writes-printed (readText t) was left next
+  circuit-printed {n} {m} is w =
       let c = done-reads t gates gates′ n m (subst (λ (x : TextReply). ReadText t gates gates′ x) is p) in
       subst (λ (x : Text). Writes-printed x was left next) (sym (c .says)) w
 
-  pub fault-printed : maxListBytes ≤ length gates → (number place : ℕ) → r ≡ read.Refused number place → Writes was 0 (refusedLine number place) left next
+  pub fault-printed : {number place : ℕ} → maxListBytes ≤ length gates → r ≡ read.Refused number place
+      → Writes was 0 (refusedLine number place) left next
       → Writes-printed (readText t) was left next
-  fault-printed room number place is w = go (readText t) refl
+  fault-printed {number} {place} room is w = go (readText t) refl
     where
       told : read.Refused number place ≡ replyOf (readText t)
       told =
@@ -138,21 +140,32 @@ module _ (t gates gates′ : List ℕ) (r : TextReply) (p : ReadText t gates gat
 
       go : (x : Text) → readText t ≡ x → Writes-printed (readText t) was left next
       go (circuit n bytes) e = absurd (never n (length bytes / gateBytes) (told ∙ ap replyOf e))
-      go (faulty f q) e = subst (λ (x : Text). Writes-printed x was left next) (sym e) (refusedLine number place, same f q (told ∙ ap replyOf e), w)
+      go (faulty f q) e =
+          subst (λ (x : Text). Writes-printed x was left next) (sym e) (refusedLine number place, same f q (told ∙ ap replyOf e), w)
 
 -- what a text that reads as a circuit brings
-pub circuit-said : (t gates gates′ : List ℕ) (r : TextReply) → ReadText t gates gates′ r → (n m : ℕ) → r ≡ read.Done n m → CircuitRead t gates gates′ n m
-circuit-said t gates gates′ r p n m is = done-reads t gates gates′ n m (subst (λ (x : TextReply). ReadText t gates gates′ x) is p)
+pub circuit-said : {t gates gates′ : List ℕ} {r : TextReply} {n m : ℕ} → ReadText t gates gates′ r → r ≡ read.Done n m
+    → CircuitRead t gates gates′ n m
+circuit-said {t} {gates} {gates′} {r} {n} {m} p is = done-reads t gates gates′ n m (subst (λ (x : TextReply). ReadText t gates gates′ x) is p)
 
 -- its gates stand within what was lent
-pub circuit-left : (t gates gates′ : List ℕ) (n m : ℕ) → CircuitRead t gates gates′ n m → gateBytes * m ≤ length gates′
-circuit-left t gates gates′ n m c = omega (arith, c .long, length-take (gateBytes * m) gates′)
+pub circuit-left : {t gates gates′ : List ℕ} {n m : ℕ} → CircuitRead t gates gates′ n m → gateBytes * m ≤ length gates′
+circuit-left {gates′ = gates′} {m = m} c = omega (arith, c .long, length-take (gateBytes * m) gates′)
 
 -- ---- the entry
 
 module _ (t out : List ℕ) where
   pub too-little-room : length out < replyBytes → AnswerText t out out (Refused lentOutput 0)
-  too-little-room h = record { outcome = subst (λ (b : Bool). entry.Outcome b (readText t) out out (Refused lentOutput 0)) (sym (lt-ltb (length out) replyBytes h)) (refl, refl) }
+  too-little-room h =
+      record {
+        outcome = subst (λ (b : Bool). entry.Outcome b (readText t) out out (Refused lentOutput 0))
+            (sym (lt-ltb (length out) replyBytes h)) (refl, refl);
+      }
 
-  pub answered : replyBytes ≤ length out → (out′ : List ℕ) (count : ℕ) → Writes-printed (readText t) out out′ count → AnswerText t out out′ (Done count)
-  answered h out′ count w = record { outcome = subst (λ (b : Bool). entry.Outcome b (readText t) out out′ (Done count)) (sym (le-ltb (length out) replyBytes h)) (count, refl, w) }
+  pub answered : replyBytes ≤ length out → (out′ : List ℕ) (count : ℕ) → Writes-printed (readText t) out out′ count
+      → AnswerText t out out′ (Done count)
+  answered h out′ count w =
+      record {
+        outcome = subst (λ (b : Bool). entry.Outcome b (readText t) out out′ (Done count)) (sym (le-ltb (length out) replyBytes h))
+            (count, refl, w);
+      }

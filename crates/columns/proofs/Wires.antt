@@ -23,11 +23,13 @@ bar-lt n z t y h l = xor-lt n y (bit y t * z) l (scale-lt (bit y t) z (2 ^ n) (b
 -- the column for n wires is that for more
 pub kappa-wires : (n N z t y : ℕ) → n ≤ N → z < 2 ^ n → y < 2 ^ n → kappa N z t y ≡ kappa n z t y
 unfolding kappa
-kappa-wires n N z t y h lz ly = ap (λ (x : ℕ). bitXor x (bit y t * 2 ^ (tri t + t))) (product-wires n N (bar z t y) h (bar-lt n z t y lz ly))
+kappa-wires n N z t y h lz ly =
+    ap (λ (x : ℕ). bitXor x (bit y t * 2 ^ (tri t + t))) (product-wires n N (bar z t y) h (bar-lt n z t y lz ly))
 
 -- ---- what code computes: for y without wire t, and for y with it
 
-pub column-without : (z t y r : ℕ) → t < maxWires → y / 2 ^ t % 2 ≡ 0 → ProductEntry y r → (r ≡ kappa maxWires z t y) × (r < 2 ^ productBits)
+pub column-without : (z t y r : ℕ) → t < maxWires → y / 2 ^ t % 2 ≡ 0 → ProductEntry y r
+    → (r ≡ kappa maxWires z t y) × (r < 2 ^ productBits)
 unfolding bit
 column-without z t y r l e p = (entry-is y r p ∙ sym (kappa-off maxWires z t y e), p .fits)
 

@@ -1,5 +1,5 @@
-// Columns over the product table: one number for a parity y and a number z, by which a set is seen to meet document 01's conditions on pairs and
-// triples of wires in a single xor. The finder and the check of a move share them. Internal: no entry for users.
+// Columns over the product table: one number for a parity y and a number z, by which a set is seen to meet document 01's conditions on
+// pairs and triples of wires in a single xor. The finder and the check of a move share them. Internal: no entry for users.
 ghost use mathlib.Core.Path.{_≡_};
 ghost use Prim.Native.Nat.{_+_, _<_, _≤_, _^_};
 ghost use Rattle.circuit.specs.Limits.{maxWires, parities, productBits};

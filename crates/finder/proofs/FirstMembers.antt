@@ -23,7 +23,7 @@ use Rattle.moves.specs.declared.Sought.the-variants.{Found, Nothing}
 use Rattle.moves.proofs.Bound.{bound}
 use Rattle.moves.proofs.Laws.{limits-suffice}
 use Rattle.moves.proofs.Sets.{occ, sumOver-occ}
-use Rattle.moves.specs.Move.{Legal, Member}
+use Rattle.moves.specs.Move.{Legal, Member, NoneLegal}
 use Rattle.finder.proofs.Listing.{gathered-length, gathered-members, gathered-search}
 use Rattle.finder.specs.Search.{Enough, Gathered, Searched}
 
@@ -91,10 +91,10 @@ module _ (k : ℕ) (ys : List ℕ) (h : Members ys) (fits : k ≤ length ys) whe
 
   -- none is legal for the first: then they are all, since more than the bound have a legal move
   all-or-none : (k ≡ length ys) ⊎ (productBits + 1 < k)
-      → ((z : ℕ) (Y : List ℕ) → Legal maxMembers maxWires (marksOf (take k ys)) z Y → ⊥)
-      → (z : ℕ) (Y : List ℕ) → Legal maxMembers maxWires (marksOf ys) z Y → ⊥
+      → NoneLegal maxMembers maxWires (marksOf (take k ys))
+      → NoneLegal maxMembers maxWires (marksOf ys)
   all-or-none (inl e) none =
-      subst (λ (l : List ℕ). (z : ℕ) (Y : List ℕ) → Legal maxMembers maxWires (marksOf l) z Y → ⊥) (take-all k ys (omega arith)) none
+      subst (λ (l : List ℕ). NoneLegal maxMembers maxWires (marksOf l)) (take-all k ys (omega arith)) none
   all-or-none (inr l) none =
       let s = limits-suffice maxWires (le-refl _) in
       absurd (omega (

@@ -13,7 +13,7 @@ use Rattle.circuit.specs.OddSet.{members}
 use Rattle.circuit.specs.Sound.{SoundMarks}
 use Rattle.circuit.specs.TableFaults.{marksFault}
 use Rattle.moves.proofs.Laws.{limits-suffice, none-legal-bound}
-use Rattle.moves.specs.Move.{Legal}
+use Rattle.moves.specs.Move.{Legal, NoneLegal}
 use Rattle.finder.specs.Entry.{Answers, FindMove, findFault, numberOf, placeOf}
 use Rattle.finder.specs.declared.Finding.{Finding}
 use Rattle.finder.specs.declared.Finding.the-variants.{Found, Nothing, Refused}
@@ -38,17 +38,13 @@ find-accepts n marks cells = (
 abbrev pub Movable : ℕ → List ℕ → Type 0
 Movable n marks = (z : ℕ) × (Y : List ℕ) × Legal maxMembers n marks z Y
 
--- there is none
-abbrev pub Finished : ℕ → List ℕ → Type 0
-Finished n marks = (z : ℕ) (Y : List ℕ) → Legal maxMembers n marks z Y → ⊥
-
 module _ (n : ℕ) (marks cells cells′ : List ℕ) where
   answer-found : (r : Finding) → Answers n marks cells cells′ r → Movable n marks → r ≡ Found
   answer-found Found a m = refl
   answer-found Nothing a m = absurd (a .1 (m .0) (m .1) (m .2))
   answer-found (Refused number place) a m = absurd a
 
-  answer-none : (r : Finding) → Answers n marks cells cells′ r → Finished n marks → r ≡ Nothing
+  answer-none : (r : Finding) → Answers n marks cells cells′ r → NoneLegal maxMembers n marks → r ≡ Nothing
   answer-none Found a none = absurd (none (a .z) (a .Y) (a .legal))
   answer-none Nothing a none = refl
   answer-none (Refused number place) a none = absurd a
@@ -88,7 +84,7 @@ module _ (n : ℕ) (marks cells cells′ : List ℕ) where
       pub found-exactly : (r ≡ Found) ↔ Movable n marks
       found-exactly = (λ e. let a = subst (Answers n marks cells cells′) e answered in (a .z, a .Y, a .legal), answer-found r answered)
 
-      pub none-exactly : (r ≡ Nothing) ↔ Finished n marks
+      pub none-exactly : (r ≡ Nothing) ↔ NoneLegal maxMembers n marks
       none-exactly = (λ e. let a = subst (Answers n marks cells cells′) e answered in a .1, answer-none r answered)
 
       -- where none is found, the odd set has at most (n² + n)/2 + 1 members

@@ -5,7 +5,7 @@ use Rattle.circuit.specs.Limits.{maxMembers, maxWires, parities}
 use Rattle.circuit.specs.Sound.{SoundMarks}
 use Rattle.moves.proofs.Wires.{legal-wires, sound-wires}
 use Rattle.moves.specs.Log.{LegalCells}
-use Rattle.moves.specs.Move.{Legal}
+use Rattle.moves.specs.Move.{NoneLegal}
 
 module _ (n : ℕ) (fit : n ≤ maxWires) (marks : List ℕ) (sound : SoundMarks parities n marks) where
   pub searchable : SoundMarks parities maxWires marks
@@ -20,6 +20,5 @@ module _ (n : ℕ) (fit : n ≤ maxWires) (marks : List ℕ) (sound : SoundMarks
         legal = legal-wires parities n maxWires maxMembers marks fit sound (f .z) (f .Y) .1 (f .legal);
       }
 
-  pub searched-none : ((z : ℕ) (Y : List ℕ) → Legal maxMembers maxWires marks z Y → ⊥)
-      → (z : ℕ) (Y : List ℕ) → Legal maxMembers n marks z Y → ⊥
+  pub searched-none : NoneLegal maxMembers maxWires marks → NoneLegal maxMembers n marks
   searched-none none z Y l = none z Y (legal-wires parities n maxWires maxMembers marks fit sound z Y .0 l)

@@ -12,7 +12,7 @@ use Rattle.moves.specs.declared.Sought.{Sought}
 use Rattle.moves.specs.declared.Sought.the-variants.{Nothing}
 use Rattle.kernel.specs.Members.{Members, Pair, marksOf}
 use Rattle.moves.proofs.Pairs.{none-both}
-use Rattle.moves.specs.Move.{Legal}
+use Rattle.moves.specs.Move.{NoneLegal}
 use Rattle.moves.specs.Sets.{Ascending, In}
 
 -- a later place holds a larger number
@@ -44,7 +44,7 @@ pub pair-passed : (ys : List ℕ) (i j a b : ℕ) (cells cells′ : List ℕ) (r
 pair-passed ys i j a b cells cells′ r p q e o = rw (p, q) at (rw e at o)
 
 pub all-passed : (ys : List ℕ) → Members ys → ((i : ℕ) → i < length ys → (j : ℕ) → j < length ys → i < j → Passed ys i j)
-    → (z : ℕ) (Y : List ℕ) → Legal maxMembers maxWires (marksOf ys) z Y → ⊥
+    → NoneLegal maxMembers maxWires (marksOf ys)
 all-passed ys h passed =
     none-both maxMembers maxWires (marksOf ys)
     (λ a b ma mb l. let n = pair a b (member-in ys h a ma) (member-in ys h b mb) l in (n .first, n .second))

@@ -8,7 +8,7 @@ use Rattle.circuit.specs.Faults.{lentFault}
 use Rattle.circuit.specs.Limits.{maxMembers, moveCells}
 use Rattle.circuit.specs.TableFaults.{callFault, marksFault}
 use Rattle.moves.specs.Log.{LegalCells}
-use Rattle.moves.specs.Move.{Legal}
+use Rattle.moves.specs.Move.{NoneLegal}
 use Rattle.finder.specs.declared.Finding.{Finding}
 use Rattle.finder.specs.declared.Finding.the-variants.{Found, Nothing, Refused}
 
@@ -31,7 +31,7 @@ findFault n marks cells = callFault n (lentFault cells moveCells) (marksFault n 
 -- they were
 abbrev pub Answers : ℕ → List ℕ → List ℕ → List ℕ → Finding → Type 0
 Answers n marks cells cells′ Found = LegalCells maxMembers n marks cells′
-Answers n marks cells cells′ Nothing = (cells′ ≡ cells) × ((z : ℕ) (Y : List ℕ) → Legal maxMembers n marks z Y → ⊥)
+Answers n marks cells cells′ Nothing = (cells′ ≡ cells) × NoneLegal maxMembers n marks
 Answers n marks cells cells′ (Refused number place) = ⊥
 
 -- `find`, called with these marks and cells, replies r and leaves cells′

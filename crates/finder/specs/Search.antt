@@ -9,7 +9,7 @@ use Rattle.circuit.specs.Sound.{weight}
 use Rattle.moves.specs.declared.Sought.{Sought}
 use Rattle.moves.specs.declared.Sought.the-variants.{Found, Nothing}
 use Rattle.moves.specs.Log.{LegalCells}
-use Rattle.moves.specs.Move.{Legal}
+use Rattle.moves.specs.Move.{NoneLegal}
 use Rattle.moves.specs.Sets.{listed}
 
 -- the first `count` of the list are the members, in ascending order
@@ -26,4 +26,4 @@ pub record Enough (count m : ℕ) : Type 0 where
 -- a legal move is written, or there is none
 abbrev pub Searched : List ℕ → List ℕ → List ℕ → Sought → Type 0
 Searched marks cells cells′ Found = LegalCells maxMembers maxWires marks cells′
-Searched marks cells cells′ Nothing = (cells′ ≡ cells) × ((z : ℕ) (Y : List ℕ) → Legal maxMembers maxWires marks z Y → ⊥)
+Searched marks cells cells′ Nothing = (cells′ ≡ cells) × NoneLegal maxMembers maxWires marks

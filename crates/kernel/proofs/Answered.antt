@@ -26,15 +26,15 @@ use Rattle.moves.specs.Pair.{Other, namedSet}
 use Rattle.moves.specs.Sets.{In}
 use Rattle.moves.specs.declared.Sought.{Sought}
 use Rattle.moves.specs.declared.Sought.the-variants.{Found, Nothing}
-use Rattle.kernel.specs.Answers.{Asked, AskedBoth, Bars, Built, Neither, Offers, Spells}
+use Rattle.kernel.specs.Answers.{Asked, AskedBoth, Bars, Built, Neither, Offers, Names}
 use Rattle.kernel.specs.Members.{Members, Others, Pair, marksOf}
 
 -- ---- one column
 
 module _ {z t a v : ℕ} {vec mask : List ℕ} (is : v ≡ kappa maxWires z t a) where
-  pub spells-by : {member cells : List ℕ} {m : ℕ} → Reached vec mask v 0 m
-      → cells ≡ asCells maxMembers z (namedSet parities member m productBits a) → Spells z t a vec mask member cells
-  spells-by {m} r e = record { m = m; reached = subst (λ (x : ℕ). Reached vec mask x 0 m) is r; is = e }
+  pub names-by : {member cells : List ℕ} {m : ℕ} → Reached vec mask v 0 m
+      → cells ≡ asCells maxMembers z (namedSet parities member m productBits a) → Names z t a vec mask member cells
+  names-by {m} r e = record { m = m; reached = subst (λ (x : ℕ). Reached vec mask x 0 m) is r; is = e }
 
   pub bars-by : {slot left m : ℕ} → Stopped productBits vec mask v slot left m → Bars z t a vec mask
   bars-by {slot} {left} {m} s =
@@ -111,8 +111,8 @@ module _ {ys : List ℕ} {a b t : ℕ} (p : Pair ys a b) (low : t ≡ trailingZe
   turned : Basis productBits (Other parities (marksOf ys) b a) (kappa maxWires (bitXor a b) t) vec mask member
   turned = others-swap productBits (kappa maxWires (bitXor a b) t) (marksOf ys) a b parities vec mask member basis
 
-  -- the cells of the set that a mask spells are those of a legal move
-  legal : (cells : List ℕ) → Spells (bitXor a b) t a vec mask member cells ⊎ Spells (bitXor a b) t b vec mask member cells
+  -- the cells of the set that a mask names are those of a legal move
+  legal : (cells : List ℕ) → Names (bitXor a b) t a vec mask member cells ⊎ Names (bitXor a b) t b vec mask member cells
       → LegalCells maxMembers maxWires (marksOf ys) cells
   legal cells (inl s) =
       record {

@@ -1,3 +1,3 @@
 pub mod Others
-pub mod Spelled
+pub mod SetsNamed
 pub mod Answered

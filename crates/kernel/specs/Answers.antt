@@ -25,8 +25,8 @@ pub record Built (k : ℕ) (ys : List ℕ) (a b z t : ℕ) (vec mask member : Li
   pub basis : Basis productBits (Others k ys a b) (kappa maxWires z t) vec mask member
   pub members : SlotMembers member
 
--- the column of a came down to 0, and the cells are those of z and the set that its mask spells with a
-pub record Spells (z t a : ℕ) (vec mask member cells : List ℕ) : Type 0 where
+-- the column of a came down to 0, and the cells are those of z and the set that its mask names with a
+pub record Names (z t a : ℕ) (vec mask member cells : List ℕ) : Type 0 where
   pub m : ℕ
   pub reached : Reached vec mask (kappa maxWires z t a) 0 m
   pub is : cells ≡ asCells maxMembers z (namedSet parities member m productBits a)
@@ -40,12 +40,12 @@ pub record Bars (z t a : ℕ) (vec mask : List ℕ) : Type 0 where
 
 -- `ask`: for one of the two
 abbrev pub Asked : ℕ → ℕ → ℕ → List ℕ → List ℕ → List ℕ → List ℕ → List ℕ → Sought → Type 0
-Asked z t a vec mask member cells cells′ Found = Spells z t a vec mask member cells′
+Asked z t a vec mask member cells cells′ Found = Names z t a vec mask member cells′
 Asked z t a vec mask member cells cells′ Nothing = (cells′ ≡ cells) × Bars z t a vec mask
 
 -- `both`: for one of them after the other
 abbrev pub AskedBoth : ℕ → ℕ → ℕ → ℕ → List ℕ → List ℕ → List ℕ → List ℕ → List ℕ → Sought → Type 0
-AskedBoth z t a b vec mask member cells cells′ Found = Spells z t a vec mask member cells′ ⊎ Spells z t b vec mask member cells′
+AskedBoth z t a b vec mask member cells cells′ Found = Names z t a vec mask member cells′ ⊎ Names z t b vec mask member cells′
 AskedBoth z t a b vec mask member cells cells′ Nothing = (cells′ ≡ cells) × Bars z t a vec mask × Bars z t b vec mask
 
 -- no legal move has one of the two in Y and the other not

@@ -1,3 +1,3 @@
 pub mod Members
-pub mod Spelling
+pub mod Naming
 pub mod Answers

@@ -10,7 +10,7 @@ ghost use Rattle.kernel.specs.Answers.{Asked, AskedBoth, Offers};
 ghost use Rattle.kernel.specs.Members.{Pair};
 
 pub mod basis;
-pub mod spelling;
+pub mod naming;
 
 use basis::build;
 use circuit::limits::MoveCell;
@@ -22,7 +22,7 @@ use columns::column;
 use echelon::Reduced;
 use echelon::reduce;
 use moves::Sought;
-use spelling::write_move;
+use naming::write_move;
 
 // Whether members a and b offer a legal move: its cells are written, or there is none, either way round. One basis serves for both ways.
 pub fn offer(

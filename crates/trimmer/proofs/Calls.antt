@@ -35,7 +35,8 @@ searched-next {n} {marks} was cells m Nothing s = searched-none n (m .few) marks
 
 -- ---- what the loop's test tells
 
-pub next-legal : {n : ℕ} {marks cells : List ℕ} {found : Sought} → found ≡ Found → NextMove n marks found cells → LegalCells maxMembers n marks cells
+pub next-legal : {n : ℕ} {marks cells : List ℕ} {found : Sought} → found ≡ Found → NextMove n marks found cells
+    → LegalCells maxMembers n marks cells
 next-legal e m = rw e at m
 
 pub next-none : {n : ℕ} {marks : List ℕ} (cells : List ℕ) {found : Sought} → found ≡ Nothing → NextMove n marks found cells

@@ -11,7 +11,8 @@ use Rattle.circuit.specs.OddSet.{members}
 use Rattle.gf2.proofs.Sum.{delta-other, sum-suc}
 use Rattle.gf2.specs.Sum.{sum}
 
-pub t-next : (bytes : List ℕ) (i : ℕ) → 3 * i + 2 < length bytes → tGates (gatesFrom bytes i) ≡ isT (getD bytes (3 * i) 0) + tGates (gatesFrom bytes (i + 1))
+pub t-next : (bytes : List ℕ) (i : ℕ) → 3 * i + 2 < length bytes
+    → tGates (gatesFrom bytes i) ≡ isT (getD bytes (3 * i) 0) + tGates (gatesFrom bytes (i + 1))
 unfolding tGates
 t-next bytes i h = rw (gates-step bytes i h)
 
@@ -23,7 +24,8 @@ pub is-t-other : (kind : ℕ) → kind ≢ T → kind ≢ T-dagger → isT kind 
 unfolding isT
 is-t-other kind a b = rw (delta-other T kind a, delta-other T-dagger kind b)
 
-pub members-next : (marks : List ℕ) (p count x : ℕ) → count ≡ sum p (λ p. getD marks p 0) → x ≡ getD marks p 0 → count + x ≡ sum (p + 1) (λ p. getD marks p 0)
+pub members-next : (marks : List ℕ) (p count x : ℕ) → count ≡ sum p (λ p. getD marks p 0) → x ≡ getD marks p 0
+    → count + x ≡ sum (p + 1) (λ p. getD marks p 0)
 members-next marks p count x e f = rw (add-one p, sum-suc p (λ p. getD marks p 0), e, f)
 
 pub members-end : (marks : List ℕ) (p count : ℕ) → length marks ≡ p → count ≡ sum p (λ p. getD marks p 0) → count ≡ members marks

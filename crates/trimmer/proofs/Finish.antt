@@ -68,7 +68,8 @@ pub record MovedC (n : ℕ) (bytes out log w rows first : List ℕ) (k : ℕ) (l
   pub marked : MarkedC n bytes out log w rows first
   pub all : AllMade n first log k last log′
 
-module _ {n : ℕ} {bytes out log w rows first : List ℕ} {k : ℕ} {last log′ : List ℕ} (c : MovedC n bytes out log w rows first k last log′) where
+module _ {n : ℕ} {bytes out log w rows first : List ℕ} {k : ℕ} {last log′ : List ℕ}
+    (c : MovedC n bytes out log w rows first k last log′) where
   turn : Turn n first log k last log′
   turn = record { first = marked-first (c .marked); room = c .marked .read .trimmable .log-room; made = c .all .made }
 
@@ -115,7 +116,8 @@ module _ {n : ℕ} {bytes out log w rows first : List ℕ} {k : ℕ} {last log�
       let wD : weightsOf n D ≡ newWeights parities n (weightsOf n C) last =
       ap (λ (r : Reading). r .weights) (list .reads) ∙ c .new-is ∙ ap (λ (x : List ℕ). newWeights parities n x last) (w-is read-C) in
       let rD : read maxWires n D .rows ≡ read maxWires n C .rows = ap (λ (r : Reading). r .rows) (list .reads) ∙ rows-is read-C in
-      let tD : tGates D ≡ members (oddSetOf n D) = list .t-gates ∙ ap (λ (r : Reading). members (oddSet (r .weights))) (sym (list .reads)) in
+      let tD : tGates D ≡ members (oddSetOf n D) =
+      list .t-gates ∙ ap (λ (r : Reading). members (oddSet (r .weights))) (sym (list .reads)) in
       let written-list : Writes-read n D =
       subst (λ (r : Reading). Wrote maxWires n (weightsLent r) (rowsLent r) D) (sym (list .reads)) list in
       record {

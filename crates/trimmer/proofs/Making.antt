@@ -65,14 +65,16 @@ module _ {n : ℕ} {m before : List ℕ} {k : ℕ} {marks log : List ℕ} (turn 
         some = turn .first .some;
         few = turn .first .few;
         sound =
-            replays-sound parities n maxMembers (limits-suffice n fits .0) m (logged moveCells log k) marks (turn .first .sound) (turn .made .replayed);
+            replays-sound parities n maxMembers (limits-suffice n fits .0) m (logged moveCells log k) marks (turn .first .sound)
+            (turn .made .replayed);
       }
 
   afforded : k + members marks ≤ members m
   afforded =
       omega (
         arith,
-        replays-shrinks parities n maxMembers (limits-suffice n fits .0) m (logged moveCells log k) marks (turn .first .sound) (turn .made .replayed),
+        replays-shrinks parities n maxMembers (limits-suffice n fits .0) m (logged moveCells log k) marks (turn .first .sound)
+            (turn .made .replayed),
         logged-length moveCells k log,
       )
 
@@ -88,7 +90,8 @@ module _ {n : ℕ} {m before : List ℕ} {k : ℕ} {marks log : List ℕ} (turn 
     few-moves = omega (arith, smaller, afforded, members-lt parities n m (omega arith) (turn .first .sound))
 
     pub move-room : moveCells * k + moveCells ≤ length log
-    move-room = omega (arith, smaller, afforded, members-lt parities n m (omega arith) (turn .first .sound), turn .made .kept .long, turn .room)
+    move-room =
+        omega (arith, smaller, afforded, members-lt parities n m (omega arith) (turn .first .sound), turn .made .kept .long, turn .room)
 
     pub move-smaller : {marks′ : List ℕ} → marks′ ≡ carryOut marks (zOf cells) (setOf cells) → members marks′ < members marks
     move-smaller e = rw (e ∙ carried) (omega (arith, smaller))

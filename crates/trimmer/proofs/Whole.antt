@@ -1,4 +1,5 @@
--- Demand 3 from its parts: reading is running, moves keep the signature and afford themselves, none is left, the new weights have the phases of C,
+-- Demand 3 from its parts: reading is running, moves keep the signature and afford themselves, none is left,
+-- the new weights have the phases of C,
 -- and the list written reads back.
 use mathlib.Core.List.{List}
 use mathlib.Core.Path.{ap, ap₂, sym, _∙_, _≡_}
@@ -41,7 +42,12 @@ module _ (n : ℕ) (fit : n ≤ maxWires) (C : List Gate) (fC : AllWellFormed n 
 
   -- moves and members left are no more than the members at first
   pub moves-afford : k + members marks ≤ members (oddSetOf n C)
-  moves-afford = omega (arith, replays-shrinks parities n maxMembers (limits-suffice n fit .0) (oddSetOf n C) (logged moveCells log k) marks first replayed, logged-length moveCells k log)
+  moves-afford =
+      omega (
+        arith,
+        replays-shrinks parities n maxMembers (limits-suffice n fit .0) (oddSetOf n C) (logged moveCells log k) marks first replayed,
+        logged-length moveCells k log,
+      )
 
   same : SameSignature n marks (weightsOf n C)
   same =
@@ -56,7 +62,9 @@ module _ (n : ℕ) (fit : n ≤ maxWires) (C : List Gate) (fC : AllWellFormed n 
     odd-D = ap oddSet wD ∙ new-weights-odd-set parities n (limits-suffice n fit .0) (weightsOf n C) marks marks-sound same
 
     phases : (x : ℕ) → x < 2 ^ n → phaseAt n (weightsOf n D) x ≡ phaseAt n (weightsOf n C) x
-    phases x h = ap (λ (v : List ℕ). phaseAt n v x) wD ∙ new-weights-same-phases parities n (limits-suffice n fit .0) (weightsOf n C) marks marks-sound same x h
+    phases x h =
+        ap (λ (v : List ℕ). phaseAt n v x) wD
+        ∙ new-weights-same-phases parities n (limits-suffice n fit .0) (weightsOf n C) marks marks-sound same x h
 
     acts : SameAction n C D
     acts x h =
@@ -67,7 +75,8 @@ module _ (n : ℕ) (fit : n ≤ maxWires) (C : List Gate) (fC : AllWellFormed n 
     t-D : tGates D ≡ members marks
     t-D = tD ∙ ap members odd-D
 
-    pub whole : (counts : Counts) → counts .tin ≡ tGates C → counts .odd ≡ members (oddSetOf n C) → counts .tout ≡ members marks → counts .moves ≡ k → counts .gates ≡ length D
+    pub whole : (counts : Counts) → counts .tin ≡ tGates C → counts .odd ≡ members (oddSetOf n C) → counts .tout ≡ members marks
+        → counts .moves ≡ k → counts .gates ≡ length D
         → Trimmed n C D log counts
     whole counts tin odd tout moves gates =
         record {
@@ -76,7 +85,12 @@ module _ (n : ℕ) (fit : n ≤ maxWires) (C : List Gate) (fC : AllWellFormed n 
           t-out = tout ∙ sym t-D;
           one-each = tD;
           no-more = omega (arith, t-D, moves-afford, odd-set-at-most-t maxWires n fit C fC);
-          bound = omega (arith, t-D, none-legal-bound parities n maxMembers (limits-suffice n fit .0) marks marks-sound (limits-suffice n fit .1) none);
+          bound =
+              omega (
+                arith,
+                t-D,
+                none-legal-bound parities n maxMembers (limits-suffice n fit .0) marks marks-sound (limits-suffice n fit .1) none,
+              );
           replayed = rw (moves, odd-D) replayed;
           weights = rw odd-D wD;
           finished = rw odd-D none;

@@ -10,7 +10,8 @@ mul-list c =
     let k : tie.After-counts = search in
     let t : tie.After-trim = search in
     let s : tie.Start = search in
-    let h = gates-within (record { said = s .pre .1; room = omega arith; log-room = omega arith }) (t .trim .ensures) (k .counts .given .1) in
+    let h =
+    gates-within (record { said = s .pre .1; room = omega arith; log-room = omega arith }) (t .trim .ensures) (k .counts .given .1) in
     record { fits = omega (arith, h) }
 
 array-share-prefix-list : tie.Need-array-share-prefix-list
@@ -33,7 +34,8 @@ put-trimmed-requires c κs =
     let t : tie.After-trim = search in
     let s : tie.Start = search in
     let h = counted (record { said = s .pre .1; room = omega arith; log-room = omega arith }) (t .trim .ensures) (k .counts .given .1) in
-    let w = gates-within (record { said = s .pre .1; room = omega arith; log-room = omega arith }) (t .trim .ensures) (k .counts .given .1) in
+    let w =
+    gates-within (record { said = s .pre .1; room = omega arith; log-room = omega arith }) (t .trim .ensures) (k .counts .given .1) in
     omega (arith, h, w, s .pre .0)
 
 returns : tie.Need-returns

@@ -12,26 +12,32 @@ use Rattle.circuit.specs.Limits.{moveCells}
 use Rattle.capi.proofs.sulmedra_move_at.Statement.{statement}
 use Rattle.capi.proofs.sulmedra_move_at.Tie as tie
 
-mul-t7 : tie.Need-mul-t7
-mul-t7 c = search needs
-
 returns : tie.Need-returns
 returns c =
-    let a = c .before .args in
+    let start : tie.Start = search in
+    let a = start .args in
     let log = now (a .log) in
     let whole = part-whole log (a .k) (omega arith) in
     record {
       starts = simp (le-leb (moveCells * a .k + moveCells) (length log) (omega arith));
-      lasts = sym (ap length whole ∙ length-take-le moveCells (drop (moveCells * a .k) log) (omega (arith, length-drop (moveCells * a .k) log)));
+      lasts =
+          sym
+          (ap length whole
+          ∙ length-take-le moveCells (drop (moveCells * a .k) log) (omega (arith, length-drop (moveCells * a .k) log)));
       is = sym whole;
     }
 
 returns-2 : tie.Need-returns-2
 returns-2 c =
-    let a = c .before .args in
+    let start : tie.Start = search in
+    let a = start .args in
     let log = now (a .log) in
     let short = part-short log (a .k) (omega arith) in
-    record { starts = simp (lt-leb (moveCells * a .k + moveCells) (length log) (omega arith)); lasts = sym (ap length short); is = sym short }
+    record {
+      starts = simp (lt-leb (moveCells * a .k + moveCells) (length log) (omega arith));
+      lasts = sym (ap length short);
+      is = sym short;
+    }
 
 pub sulmedra-move-at-spec : {M : Type 1} → statement M
-sulmedra-move-at-spec = tie.close (tie.spec mul-t7 returns returns-2)
+sulmedra-move-at-spec = tie.close (tie.spec (λ c. search needs) returns returns-2)

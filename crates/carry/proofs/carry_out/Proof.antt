@@ -13,7 +13,7 @@ use Rattle.carry.proofs.carry_out.Tie as tie
 
 -- the call, seen from where its fault is known
 abbrev entry : tie.After-marks-call-fault → tie.Start
-entry f = f .before .before .before .before .before
+entry f = search
 
 fault-is : (f : tie.After-marks-call-fault) → f .marks-call-fault .result ≡ carryFault (entry f .args .n) (now (entry f .args .marks))
 fault-is f =

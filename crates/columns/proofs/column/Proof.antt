@@ -6,15 +6,6 @@ use Rattle.columns.proofs.Wires.{column-with, column-without}
 use Rattle.columns.proofs.column.Statement.{statement}
 use Rattle.columns.proofs.column.Tie as tie
 
-cast-if1 : tie.Need-cast-if1
-cast-if1 c = search needs
-
-shr-if1 : tie.Need-shr-if1
-shr-if1 c = search needs
-
-product-requires : tie.Need-product-requires
-product-requires c κs = search needs
-
 returns : tie.Need-returns
 returns c =
     let t : tie.Then1 = search in
@@ -26,12 +17,6 @@ product-requires-2 : tie.Need-product-requires-2
 product-requires-2 c κs =
     let s : tie.Start = search in
     (s .pre .0, xor-lt maxWires (s .args .y) (s .args .z) (s .pre .1 .2) (s .pre .1 .1))
-
-place-requires : tie.Need-place-requires
-place-requires c κs = search needs
-
-shl-result : tie.Need-shl-result
-shl-result c = search needs
 
 returns-2 : tie.Need-returns-2
 returns-2 c =
@@ -46,11 +31,11 @@ pub column-spec : {M : Type 1} → statement M
 column-spec =
     tie.close
     (tie.spec
-    cast-if1
-    shr-if1
-    product-requires
+    (λ c. search needs)
+    (λ c. search needs)
+    (λ c κs. search needs)
     returns
     product-requires-2
-    place-requires
-    shl-result
+    (λ c κs. search needs)
+    (λ c. search needs)
     returns-2)

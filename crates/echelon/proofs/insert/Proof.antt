@@ -10,7 +10,7 @@ use Rattle.echelon.proofs.insert.Tie as tie
 
 -- the entry, seen from the place where `reduce` has found an empty slot
 abbrev entry : tie.After-slot → tie.Start
-entry f = f .before .before .before .before .before
+entry f = search
 
 -- what it said there
 stopped : (f : tie.After-slot)

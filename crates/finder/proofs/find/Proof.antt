@@ -16,7 +16,7 @@ abbrev Judged : Type 0
 Judged = tie.After-marks-call-fault
 
 abbrev entry : Judged → tie.Start
-entry j = j .before .before .before .before
+entry j = search
 
 judged : (j : Judged)
     → j .marks-call-fault .result ≡ findFault (entry j .args .n) (now (entry j .args .marks)) (length (now (entry j .args .cells)))

@@ -1,7 +1,7 @@
--- A column that came down to 0 is spelled; one that was stopped bars a.
+-- A column that came down to 0 has its set named; one that was stopped bars a.
 use mathlib.Core.Path.{refl}
 use borrow.Author.Needs.{needs}
-use Rattle.kernel.proofs.Answered.{bars-by, spells-by}
+use Rattle.kernel.proofs.Answered.{bars-by, names-by}
 use Rattle.kernel.proofs.ask.Statement.{statement}
 use Rattle.kernel.proofs.ask.Tie as tie
 
@@ -11,7 +11,7 @@ returns c =
     let m : tie.After-m = search in
     let r : tie.After-reduce = search in
     let k : tie.After-column = search in
-    spells-by (k .column .ensures .0) (rw (m .m .given .1) at (r .reduce .ensures)) (w .write-move .ensures)
+    names-by (k .column .ensures .0) (rw (m .m .given .1) at (r .reduce .ensures)) (w .write-move .ensures)
 
 returns-2 : tie.Need-returns-2
 returns-2 c =

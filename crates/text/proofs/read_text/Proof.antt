@@ -8,7 +8,7 @@ use Rattle.text.proofs.read_text.Tie as tie
 
 -- the text is judged; the entry, seen from there
 abbrev entry : tie.After-text-fault → tie.Start
-entry f = f .before .before .before .before
+entry f = search
 
 judged : (f : tie.After-text-fault) → Judged (now (entry f .args .text)) (now (entry f .args .gates)) (f .text-fault .result)
 judged f = record { lent = omega arith; is = f .text-fault .ensures }

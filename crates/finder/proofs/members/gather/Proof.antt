@@ -21,7 +21,7 @@ loop-holds : tie.Need-loop-holds Inv-loop μ-loop
 loop-holds c = let s : tie.Start Inv-loop μ-loop = search in (search needs, gather-none (s .pre .1))
 
 abbrev entry : tie.At-loop Inv-loop μ-loop → tie.Start Inv-loop μ-loop
-entry at = at .before .before
+entry at = search
 
 -- a mark is 0 or 1
 small : (at : tie.At-loop Inv-loop μ-loop) → weight (now (entry at .args .marks)) (at .loop .p) < 2

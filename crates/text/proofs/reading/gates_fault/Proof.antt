@@ -26,10 +26,13 @@ abbrev Formed : Type 0
 Formed = tie.Else2 Inv-loop μ-loop
 
 abbrev head : Formed → tie.At-loop Inv-loop μ-loop
-head l = l .before .before .before .before
+head l = search
+
+abbrev entry : Formed → tie.Start Inv-loop μ-loop
+entry l = search
 
 abbrev text : Formed → List ℕ
-text l = now (head l .before .before .args .text)
+text l = now (entry l .args .text)
 
 formed : (l : Formed) → firstFormed gateDigits (linesOf (drop (head l .loop .at) (text l))) ≡ true
 formed l =

@@ -14,8 +14,11 @@ use Rattle.text.proofs.reading.text_fault.Statement.{statement}
 use Rattle.text.proofs.reading.text_fault.Tie as tie
 
 -- line one has its form, seen from behind the test
+abbrev entry : tie.Else1 → tie.Start
+entry l = search
+
 abbrev text : tie.Else1 → List ℕ
-text l = now (l .before .before .before .args .text)
+text l = now (entry l .args .text)
 
 formed : (l : tie.Else1) → firstFormed wiresDigits (linesOf (text l)) ≡ true
 formed l = let f : tie.After-line-formed = search in sym (f .line-formed .ensures) ∙ not-false _ (l .if1 .left)

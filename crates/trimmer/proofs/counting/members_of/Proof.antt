@@ -22,32 +22,24 @@ loop-holds : tie.Need-loop-holds Inv-loop μ-loop
 unfolding sum
 loop-holds c = (search needs, search needs, refl)
 
-element-copy-out-wide : tie.Need-element-copy-out-wide Inv-loop μ-loop
-element-copy-out-wide c = search needs
-
-wide-requires : tie.Need-wide-requires Inv-loop μ-loop
-wide-requires c κs = search needs
-
 add-count : tie.Need-add-count Inv-loop μ-loop
 add-count c = omega (arith, c .wide .ensures .0, c .wide .ensures .1)
 
-add-p : tie.Need-add-p Inv-loop μ-loop
-add-p c = search needs
-
-loop-less : tie.Need-loop-less Inv-loop μ-loop
-loop-less c = search needs
-
 loop-again : tie.Need-loop-again Inv-loop μ-loop
 loop-again c =
-    let at-loop : tie.At-loop Inv-loop μ-loop = search in
-    let at = at-loop in
-    let m = now (at .before .args .marks) in
-    (search needs, omega (arith, c .wide .ensures .0, c .wide .ensures .1), members-next m (at .loop .p) (at .loop .count) (c .wide .result) (at .loop .inv .2) (c .wide .ensures .0))
+    let at : tie.At-loop Inv-loop μ-loop = search in
+    let s : tie.Start Inv-loop μ-loop = search in
+    let m = now (s .args .marks) in (
+      search needs,
+      omega (arith, c .wide .ensures .0, c .wide .ensures .1),
+      members-next m (at .loop .p) (at .loop .count) (c .wide .result) (at .loop .inv .2) (c .wide .ensures .0),
+    )
 
 returns : tie.Need-returns Inv-loop μ-loop
 returns c =
-    let at = c .before in
-    members-end (now (at .before .args .marks)) (at .loop .p) (at .loop .count) (omega (arith, at .before .pre)) (at .loop .inv .2)
+    let at : tie.At-loop Inv-loop μ-loop = search in
+    let start : tie.Start Inv-loop μ-loop = search in
+    members-end (now (start .args .marks)) (at .loop .p) (at .loop .count) (omega (arith, start .pre)) (at .loop .inv .2)
 
 pub members-of-spec : {M : Type 1} → statement M
 members-of-spec =
@@ -56,10 +48,10 @@ members-of-spec =
     Inv-loop
     μ-loop
     loop-holds
-    element-copy-out-wide
-    wide-requires
+    (λ c. search needs)
+    (λ c κs. search needs)
     add-count
-    add-p
-    loop-less
+    (λ c. search needs)
+    (λ c. search needs)
     loop-again
     returns)

@@ -6,7 +6,7 @@ ghost use Rattle.circuit.specs.Limits.{maxMembers, moveCells, parities, product
 ghost use Rattle.echelon.specs.Slots.{SlotMembers};
 ghost use Rattle.moves.specs.Log.{asCells};
 ghost use Rattle.moves.specs.Pair.{namedSet};
-ghost use Rattle.kernel.specs.Spelling.{Few, SpelledMarks, listedCells};
+ghost use Rattle.kernel.specs.Naming.{Few, NamedMarks, listedCells};
 use circuit::cells::cell_at;
 use circuit::cells::put_cell;
 use circuit::copying::copy_parities;
@@ -32,16 +32,16 @@ pub fn write_move(
     requires { ⌜ length (now cells) ≡ moveCells ⌝ }
     ensures { λ _. ⌜ now (cells .exit) ≡ asCells maxMembers z (namedSet parities (now (member .entry)) m productBits a) ⌝ }
 {
-    let mut set = spell(m, member);
+    let mut set = marks_named(m, member);
     flip_mark(&mut set, a);
     let listed = list(z, &set);
     copy_parities(&listed, cells);
 }
 
 // The marks of the members of the slots in the mask, each flipped: so it is of no matter whether members differ.
-fn spell(m: u64, member: &[Parity; PRODUCT_BITS]) -> [Mark; TABLE_BYTES]
+fn marks_named(m: u64, member: &[Parity; PRODUCT_BITS]) -> [Mark; TABLE_BYTES]
     requires { ⌜ SlotMembers (now member) ⌝ }
-    ensures { λ r. ⌜ SpelledMarks m (now (member .entry)) r ⌝ }
+    ensures { λ r. ⌜ NamedMarks m (now (member .entry)) r ⌝ }
 {
     let mut set = [0 as Mark; TABLE_BYTES];
     let mut s: usize = 0;

@@ -7,9 +7,9 @@ use borrow.Author.Needs.{needs}
 use denote.Ref.{now}
 use Rattle.circuit.proofs.Filling.{put-long}
 use Rattle.circuit.specs.Limits.{maxMembers, moveCells, parities}
-use Rattle.kernel.proofs.Spelled.{ListedTo, list-none, list-off, list-on, list-room}
-use Rattle.kernel.proofs.spelling.list.Statement.{statement}
-use Rattle.kernel.proofs.spelling.list.Tie as tie
+use Rattle.kernel.proofs.SetsNamed.{ListedTo, list-none, list-off, list-on, list-room}
+use Rattle.kernel.proofs.naming.list.Statement.{statement}
+use Rattle.kernel.proofs.naming.list.Tie as tie
 
 abbrev Inv-loop : tie.InvT-loop
 Inv-loop z set cells₀ p₀ cells p = (p ≤ length set) × (length cells ≡ moveCells) × ListedTo z set p cells
@@ -31,7 +31,7 @@ abbrev Marked : Type 0
 Marked = tie.Then1 Inv-loop μ-loop
 
 abbrev head : Marked → tie.At-loop Inv-loop μ-loop
-head m = m .before .before .before
+head m = search
 
 -- it is a parity, and the set so far is not full
 inside : (m : Marked) → head m .loop .p < parities

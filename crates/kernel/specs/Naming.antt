@@ -1,4 +1,4 @@
--- What spelling a set promises.
+-- What naming a set promises.
 use mathlib.Core.List.{List}
 use mathlib.Core.Path.{_≡_}
 use Prim.Native.Nat.{_<_, _≤_, ℕ}
@@ -11,7 +11,7 @@ use Rattle.moves.specs.Pair.{named}
 use Rattle.moves.specs.Sets.{listed}
 
 -- the marks of the members of the slots that m names, toggled; each of them has a mark
-pub record SpelledMarks (m : ℕ) (member set : List ℕ) : Type 0 where
+pub record NamedMarks (m : ℕ) (member set : List ℕ) : Type 0 where
   pub is : set ≡ named parities member m productBits
   pub room : (s : ℕ) → s < productBits → bit m s ≡ 1 → getD member s 0 < parities
 

@@ -6,10 +6,10 @@ use lib.ListN.{length}
 use borrow.Author.Needs.{needs}
 use denote.Ref.{now}
 use Rattle.circuit.specs.Limits.{parities, productBits, tableBytes}
-use Rattle.kernel.proofs.Spelled.{spell-long, spell-named, spell-start, spell-unnamed}
+use Rattle.kernel.proofs.SetsNamed.{naming-long, naming-named, naming-start, naming-unnamed}
 use Rattle.moves.specs.Pair.{named}
-use Rattle.kernel.proofs.spelling.spell.Statement.{statement}
-use Rattle.kernel.proofs.spelling.spell.Tie as tie
+use Rattle.kernel.proofs.naming.marks_named.Statement.{statement}
+use Rattle.kernel.proofs.naming.marks_named.Tie as tie
 
 abbrev Inv-loop : tie.InvT-loop
 Inv-loop m member set₀ s₀ set s = (s ≤ productBits) × (set ≡ named parities member m s)
@@ -20,13 +20,13 @@ abbrev μ-loop : tie.MeasureT-loop
 loop-holds : tie.Need-loop-holds Inv-loop μ-loop
 loop-holds c =
     let s : tie.Start Inv-loop μ-loop = search in
-    (search needs, spell-start (now (s .args .member)) (s .args .m))
+    (search needs, naming-start (now (s .args .member)) (s .args .m))
 
 -- a mark for each parity, at the head of each turn
 long : (at : tie.At-loop Inv-loop μ-loop) → length (at .loop .set) ≡ tableBytes
 long at =
     let s : tie.Start Inv-loop μ-loop = search in
-    spell-long (now (s .args .member)) (s .args .m) (at .loop .s) (at .loop .set) (at .loop .inv .1)
+    naming-long (now (s .args .member)) (s .args .m) (at .loop .s) (at .loop .set) (at .loop .inv .1)
 
 slice-aggregate-flip-mark : tie.Need-slice-aggregate-flip-mark Inv-loop μ-loop
 slice-aggregate-flip-mark c = sym (long (search))
@@ -50,7 +50,7 @@ loop-again c =
     let at : tie.At-loop Inv-loop μ-loop = search in
     let s : tie.Start Inv-loop μ-loop = search in (
       search needs,
-      spell-named (now (s .args .member)) (s .args .m) (at .loop .s) (at .loop .set) (at .loop .inv .1) _ _ (is-named .if1 .taken)
+      naming-named (now (s .args .member)) (s .args .m) (at .loop .s) (at .loop .set) (at .loop .inv .1) _ _ (is-named .if1 .taken)
           (p .cell-at .ensures) (flipped .flip-mark .ensures),
     )
 
@@ -58,7 +58,7 @@ loop-again-2 : tie.Need-loop-again-2 Inv-loop μ-loop
 loop-again-2 c =
     let at : tie.At-loop Inv-loop μ-loop = search in
     let s : tie.Start Inv-loop μ-loop = search in
-    (search needs, spell-unnamed (now (s .args .member)) (s .args .m) (at .loop .s) (at .loop .set) (at .loop .inv .1) (c .if1 .left))
+    (search needs, naming-unnamed (now (s .args .member)) (s .args .m) (at .loop .s) (at .loop .set) (at .loop .inv .1) (c .if1 .left))
 
 returns : tie.Need-returns Inv-loop μ-loop
 returns c =
@@ -67,8 +67,8 @@ returns c =
     let e : at .loop .s ≡ productBits = omega arith in
     record { is = rw e at (at .loop .inv .1); room = λ k l h. s .pre .below k (omega (arith, s .pre .long)) }
 
-pub spell-spec : {M : Type 1} → statement M
-spell-spec =
+pub marks-named-spec : {M : Type 1} → statement M
+marks-named-spec =
     tie.close
     (tie.spec
     Inv-loop

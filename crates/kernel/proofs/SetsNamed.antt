@@ -1,4 +1,4 @@
--- Spelling a mask out, and listing the marks, one turn of each loop after the other.
+-- Marking what a mask names, and listing the marks, one turn of each loop after the other.
 use mathlib.Core.List.{List}
 use mathlib.Core.Logic.{_≢_}
 use mathlib.Core.Path.{_∙_, _≡_, ap, ap₂, refl, subst, sym}
@@ -16,27 +16,27 @@ use Rattle.moves.specs.CarryOut.{flip}
 use Rattle.moves.specs.Log.{asCells}
 use Rattle.moves.specs.Pair.{named, namedSet}
 use Rattle.moves.specs.Sets.{listed}
-use Rattle.kernel.specs.Spelling.{Few, SpelledMarks, listedCells}
+use Rattle.kernel.specs.Naming.{Few, NamedMarks, listedCells}
 
 -- ---- the loop over the slots
 
-pub spell-start : (member : List ℕ) (m : ℕ) → replicate parities 0 ≡ named parities member m 0
+pub naming-start : (member : List ℕ) (m : ℕ) → replicate parities 0 ≡ named parities member m 0
 unfolding named
-spell-start member m = refl
+naming-start member m = refl
 
 module _ (member : List ℕ) (m k : ℕ) (marks : List ℕ) (is : marks ≡ named parities member m k) where
-  pub spell-long : length marks ≡ tableBytes
-  spell-long = ap length is ∙ named-length parities member m k
+  pub naming-long : length marks ≡ tableBytes
+  naming-long = ap length is ∙ named-length parities member m k
 
   -- slot k is named, and p is its member
-  pub spell-named : (marks′ : List ℕ) (p : ℕ) → m / 2 ^ k % 2 ≡ 1 → p ≡ getD member k 0 → marks′ ≡ flip marks p
+  pub naming-named : (marks′ : List ℕ) (p : ℕ) → m / 2 ^ k % 2 ≡ 1 → p ≡ getD member k 0 → marks′ ≡ flip marks p
       → marks′ ≡ named parities member m (k + 1)
   unfolding bit
-  spell-named marks′ p e of t = t ∙ ap₂ flip is of ∙ sym (named-on parities member m k e)
+  naming-named marks′ p e of t = t ∙ ap₂ flip is of ∙ sym (named-on parities member m k e)
 
-  pub spell-unnamed : m / 2 ^ k % 2 ≢ 1 → marks ≡ named parities member m (k + 1)
+  pub naming-unnamed : m / 2 ^ k % 2 ≢ 1 → marks ≡ named parities member m (k + 1)
   unfolding bit
-  spell-unnamed ne = is ∙ sym (named-off parities member m k (omega arith))
+  naming-unnamed ne = is ∙ sym (named-off parities member m k (omega arith))
 
 -- with a the set is small enough: a member for each slot at most, and a
 small : (member : List ℕ) (m a : ℕ) → Room parities member m productBits → a < parities
@@ -55,7 +55,7 @@ small member m a room l =
           );
     }
 
-module _ {m : ℕ} {member marks : List ℕ} (said : SpelledMarks m member marks) (a : ℕ) (marks′ : List ℕ) (t : marks′ ≡ flip marks a) where
+module _ {m : ℕ} {member marks : List ℕ} (said : NamedMarks m member marks) (a : ℕ) (marks′ : List ℕ) (t : marks′ ≡ flip marks a) where
   set-is : marks′ ≡ flip (named parities member m productBits) a
   set-is = t ∙ ap (λ (w : List ℕ). flip w a) (said .is)
 
