@@ -63,6 +63,14 @@ short-pass m wanted e = go (decLe wanted m)
 pub short-well : (m wanted : ℕ) → wanted ≤ m → shortFault m wanted ≡ 0
 short-well m wanted l = simp (le-leb wanted m l)
 
+-- the first of two faults, or the second where there is no first
+pub or-first : (f g : ℕ) → f ≢ 0 → f ≡ orElse f g
+or-first zero g h = absurd (h refl)
+or-first (suc f) g h = refl
+
+pub or-second : (f g : ℕ) → f ≡ 0 → g ≡ orElse f g
+or-second f g e = rw e
+
 pub or-pass : (f g : ℕ) → orElse f g ≡ 0 → (f ≡ 0) × (g ≡ 0)
 or-pass zero g e = (refl, e)
 or-pass (suc f) g e = absurd (omega arith)

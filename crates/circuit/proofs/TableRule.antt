@@ -10,7 +10,7 @@ use native.Mathlib.Omega.{arith}
 use lib.ListN.{List·getD-eq-default, drop, getD, length}
 use lib.Seq.{drop-cons}
 use borrow.Author.Tests.{eq-eqb, le-leb, le-ltb, lt-leb, lt-ltb, ne-eqb}
-use Rattle.circuit.proofs.Judging.{or-pass, or-well, refused, wires-pass, wires-well}
+use Rattle.circuit.proofs.Judging.{or-first, or-pass, or-well, refused, wires-pass, wires-well}
 use Rattle.circuit.specs.Faults.{callReply, orElse, tableRule, wiresFault}
 use Rattle.circuit.specs.Limits.{maxMark, maxWeight, maxWires}
 use Rattle.circuit.specs.Sound.{SoundMarks, SoundWeights, weight}
@@ -51,11 +51,7 @@ module _ (n most : ℕ) (table : List ℕ) (p : ℕ) (inside : p < length table)
   step = rw (drop-cons table p 0 inside, ← e, add-one p)
 
   pub fault-at : f ≢ 0 → f ≡ bytesFault n most p (drop p table)
-  fault-at ne = go f ne ∙ sym step
-    where
-      go : (f : ℕ) → f ≢ 0 → f ≡ orElse f (bytesFault n most (p + 1) (drop (p + 1) table))
-      go zero h = absurd (h refl)
-      go (suc f) h = refl
+  fault-at ne = or-first f (bytesFault n most (p + 1) (drop (p + 1) table)) ne ∙ sym step
 
   pub fault-after : f ≡ 0 → bytesFault n most (p + 1) (drop (p + 1) table) ≡ bytesFault n most p (drop p table)
   fault-after z = sym (step ∙ rw z)

@@ -12,7 +12,7 @@ use lib.ListN.{List·getD-eq-default, drop, getD, length}
 use lib.Pow.{pow-pos}
 use lib.Seq.{drop-cons, drop-length}
 use borrow.Author.Tests.{eq-eqb, le-leb, le-ltb, lt-leb, lt-ltb, ne-eqb}
-use Rattle.circuit.proofs.Judging.{or-pass, or-well}
+use Rattle.circuit.proofs.Judging.{or-first, or-pass, or-second, or-well}
 use Rattle.circuit.specs.Faults.{orElse, rowRule}
 use Rattle.circuit.specs.Read.{either}
 use Rattle.circuit.specs.Sound.{SoundRows}
@@ -128,14 +128,6 @@ module _ (n : ℕ) (rows : List ℕ) where
   clear-independent e s ne l z = let q : rowRule ≡ 0 = cancel-some (2 ^ n - 1) rows s ne (omega arith) z ∙ e in omega arith
 
 -- ---- the rows
-
--- the first of two faults, or the second where there is no first
-pub or-first : (f g : ℕ) → f ≢ 0 → f ≡ orElse f g
-or-first zero g h = absurd (h refl)
-or-first (suc f) g h = refl
-
-pub or-second : (f g : ℕ) → f ≡ 0 → g ≡ orElse f g
-or-second f g e = rw e
 
 module _ (N n : ℕ) (rows : List ℕ) where
   pub other-length : length rows ≢ N → rowRule ≡ rowsFault N n rows

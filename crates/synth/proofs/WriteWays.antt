@@ -7,7 +7,7 @@ use native.Mathlib.Nat.{mul-le-mul}
 use native.Mathlib.Omega.{arith}
 use lib.ListN.{length, take}
 use lib.Pow.{pow-mono}
-use Rattle.circuit.proofs.Judging.{or-pass, or-well, short-pass, short-well}
+use Rattle.circuit.proofs.Judging.{or-first, or-pass, or-second, or-well, short-pass, short-well}
 use Rattle.circuit.proofs.TableRule.{call-passes, passes-call, weights-sound}
 use Rattle.circuit.specs.Faults.{Accepted, orElse, shortFault}
 use Rattle.circuit.specs.Gate.{Gate, bytesOf, gatesOf}
@@ -15,7 +15,7 @@ use Rattle.circuit.specs.Lent.{frontGates}
 use Rattle.circuit.specs.Limits.{gateBytes, maxWires, maxWrittenGates, parities, rowCells, writeBytes, writtenGates}
 use Rattle.circuit.specs.TableFaults.{callFault, weightsFault}
 use Rattle.synth.proofs.GateBytes.{gates-of-bytes, length-bytes}
-use Rattle.synth.proofs.RowRule.{or-first, or-second, rows-sound}
+use Rattle.synth.proofs.RowRule.{rows-sound}
 use Rattle.synth.proofs.Stores.{room-first, room-then, stored-front, stored-kept, stored-then}
 use Rattle.synth.proofs.WriteBack.{list-written}
 use Rattle.synth.specs.Entry.{WriteList, Wrote, WroteBytes, writeReply}
