@@ -18,7 +18,6 @@ use circuit::limits::MOVE_CELLS;
 use finder::Finding;
 use synth::Written;
 use text::TextReply;
-use trimmer::Counts;
 use trimmer::TrimReply;
 
 #[repr(C)]

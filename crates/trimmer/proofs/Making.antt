@@ -6,7 +6,7 @@ use native.Mathlib.Numerals.{add-one}
 use native.Mathlib.Omega.{arith}
 use lib.ListN.{getD, length}
 use Rattle.circuit.proofs.Placing.{kept-all, kept-placed}
-use Rattle.circuit.specs.Lent.{KeptFrom, placed}
+use Rattle.circuit.specs.Lent.{placed}
 use Rattle.circuit.specs.Limits.{logCells, maxMembers, maxWires, moveCells, parities}
 use Rattle.circuit.specs.OddSet.{members}
 use Rattle.circuit.specs.Sound.{SoundMarks}

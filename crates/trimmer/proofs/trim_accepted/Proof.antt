@@ -2,7 +2,7 @@
 use mathlib.Core.Path.{refl}
 use borrow.Author.Needs.{needs}
 use denote.Ref.{now}
-use Rattle.trimmer.proofs.Finish.{MarkedC, MovedC, ReadC, WeighedC, finish, marked-first, marked-last, sound-weights, writable}
+use Rattle.trimmer.proofs.Finish.{ReadC, finish, marked-first, marked-last, sound-weights, writable}
 use Rattle.trimmer.proofs.trim_accepted.Statement.{statement}
 use Rattle.trimmer.proofs.trim_accepted.Tie as tie
 

@@ -1,5 +1,4 @@
 -- The count of trailing zeros, in a word of 64 bits.
-use mathlib.Core.Path.{_∙_}
 use native.Mathlib.Omega.{arith}
 use lib.Count.{trailing-le}
 use borrow.Author.Needs.{needs}

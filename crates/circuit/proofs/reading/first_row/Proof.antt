@@ -1,5 +1,4 @@
 -- Row i at the start.
-use mathlib.Core.Path.{_∙_, sym}
 use native.Mathlib.Omega.{arith}
 use borrow.Author.Needs.{needs}
 use borrow.Author.Tests.{le-ltb, lt-ltb}

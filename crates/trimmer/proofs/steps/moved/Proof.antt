@@ -1,7 +1,6 @@
 -- The cells of a legal move have the form that `set_of` asks for, and `carry` does the move.
 use mathlib.Core.Path.{_∙_, ap₂}
 use borrow.Author.Needs.{needs}
-use denote.Ref.{now}
 use Rattle.carry.proofs.Ways.{may-carry}
 use Rattle.moves.specs.CarryOut.{carryOut}
 use Rattle.trimmer.proofs.Calls.{legal-everywhere, legal-form}
