@@ -33,7 +33,7 @@ module _ (N : ℕ) (κ : ℕ → ℕ) where
                   };
               masks-long = length-replicate N 0;
               columns-long = length-map (replicate N 0) κ ∙ length-replicate N 0;
-              spells = λ s l. rw (getD-zeros N s) (combine-none (map κ (replicate N 0)));
+              combines = λ s l. rw (getD-zeros N s) (combine-none (map κ (replicate N 0)));
               filled = λ s t l e. rw (getD-zeros N s) (bit-of-zero t);
             };
         spans = λ y p. absurd (none y p);
@@ -95,8 +95,8 @@ module _ (N : ℕ) (κ : ℕ → ℕ) where
     members-long = sym (length-map member κ) ∙ h .echelon .columns-long
 
     -- v come down to 0 is the xor of the columns of the members of the slots in m
-    pub basis-spells : (v m : ℕ) → Reached vec mask v 0 m → combine m (map κ member) ≡ v
-    basis-spells v m r = reached-zero vec mask N (map κ member) (h .echelon) v m r
+    pub basis-combines : (v m : ℕ) → Reached vec mask v 0 m → combine m (map κ member) ≡ v
+    basis-combines v m r = reached-zero vec mask N (map κ member) (h .echelon) v m r
 
     -- which are allowed
     pub basis-names : (v rest m s : ℕ) → Reached vec mask v rest m → bit m s ≡ 1 → P (getD member s 0)

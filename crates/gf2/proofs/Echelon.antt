@@ -104,8 +104,8 @@ module _ (vec mask : List ℕ) where
 
   module _ (N : ℕ) (columns : List ℕ) (ech : Echelon N vec mask columns) where
     -- the columns of the slots in m xor to what was taken off v
-    pub reached-spells : (v rest m : ℕ) → Reached vec mask v rest m → bitXor (combine m columns) rest ≡ v
-    reached-spells v rest m r =
+    pub reached-combines : (v rest m : ℕ) → Reached vec mask v rest m → bitXor (combine m columns) rest ≡ v
+    reached-combines v rest m r =
         ap (λ (x : ℕ). bitXor x rest)
         (ap (λ (x : ℕ). combine x columns) (sym (r .masks)) ∙ combine-combine (r .by) mask columns ∙ ap (combine (r .by)) spelled)
         ∙ r .left
@@ -120,11 +120,11 @@ module _ (vec mask : List ℕ) where
             slot s l =
                 ap (λ (d : ℕ). getD (map (λ m. combine m columns) mask) s d) (sym (combine-none columns))
                 ∙ List·getD-map (λ m. combine m columns) mask s 0
-                ∙ ech .spells s l
+                ∙ ech .combines s l
 
     -- come down to 0, v is the combination that m names
     pub reached-zero : (v m : ℕ) → Reached vec mask v 0 m → combine m columns ≡ v
-    reached-zero v m r = sym (xor-zero-r (combine m columns)) ∙ reached-spells v 0 m r
+    reached-zero v m r = sym (xor-zero-r (combine m columns)) ∙ reached-combines v 0 m r
 
     -- and m names filled slots only
     pub reached-filled : (v rest m t : ℕ) → Reached vec mask v rest m → getD vec t 0 ≡ 0 → bit m t ≡ 0
@@ -147,13 +147,13 @@ module _ (N : ℕ) (vec mask columns : List ℕ) (v s rest m : ℕ) (ech : Echel
   unseen : (x : ℕ) → bit x s ≡ 0 → combine x (set columns s v) ≡ combine x columns
   unseen x e = combine-unseen x s v columns (rw (ech .columns-long) (t .slot)) e
 
-  -- the new mask spells rest
+  -- the new mask combines rest
   opened : combine (bitXor m (2 ^ s)) (set columns s v) ≡ rest
   opened =
       combine-xor m (2 ^ s) (set columns s v)
       ∙ ap₂ bitXor (unseen m (reached-filled vec mask N columns ech v rest m s (t .reached) (t .empty)))
       (combine-one s (set columns s v) ∙ getD-set-same columns s v 0 (rw (ech .columns-long) (t .slot)))
-      ∙ ap (bitXor (combine m columns)) (sym (reached-spells vec mask N columns ech v rest m (t .reached)))
+      ∙ ap (bitXor (combine m columns)) (sym (reached-combines vec mask N columns ech v rest m (t .reached)))
       ∙ sym (xor-assoc (combine m columns) (combine m columns) rest) ∙ rw (xor-self (combine m columns)) (xor-zero-l rest)
 
   pub filled-echelon : Echelon N (set vec s rest) (set mask s (bitXor m (2 ^ s))) (set columns s v)
@@ -162,7 +162,7 @@ module _ (N : ℕ) (vec mask columns : List ℕ) (v s rest m : ℕ) (ech : Echel
         shape = record { long = length-set vec s rest ∙ ech .shape .long; lead = λ i l. lead′ i l (ℕ-discrete i s) };
         masks-long = length-set mask s (bitXor m (2 ^ s)) ∙ ech .masks-long;
         columns-long = length-set columns s v ∙ ech .columns-long;
-        spells = λ i l. spells′ i l (ℕ-discrete i s);
+        combines = λ i l. combines′ i l (ℕ-discrete i s);
         filled = λ i j l z. filled′ i j l z (ℕ-discrete i s);
       }
     where
@@ -173,12 +173,12 @@ module _ (N : ℕ) (vec mask columns : List ℕ) (v s rest m : ℕ) (ech : Echel
       masked : getD (set mask s (bitXor m (2 ^ s))) s 0 ≡ bitXor m (2 ^ s)
       masked = getD-set-same mask s (bitXor m (2 ^ s)) 0 (rw (ech .masks-long) (t .slot))
 
-      spells′ : (i : ℕ) → i < N → Dec (i ≡ s)
+      combines′ : (i : ℕ) → i < N → Dec (i ≡ s)
           → combine (getD (set mask s (bitXor m (2 ^ s))) i 0) (set columns s v) ≡ getD (set vec s rest) i 0
-      spells′ i l (yes q) = rw (q, masked, now) opened
-      spells′ i l (no n) =
+      combines′ i l (yes q) = rw (q, masked, now) opened
+      combines′ i l (no n) =
           rw (getD-set-other mask s i (bitXor m (2 ^ s)) 0 n, getD-set-other vec s i rest 0 n)
-          (unseen (getD mask i 0) (ech .filled i s l (t .empty)) ∙ ech .spells i l)
+          (unseen (getD mask i 0) (ech .filled i s l (t .empty)) ∙ ech .combines i l)
 
       filled′ : (i j : ℕ) → i < N → getD (set vec s rest) j 0 ≡ 0 → Dec (i ≡ s) → bit (getD (set mask s (bitXor m (2 ^ s))) i 0) j ≡ 0
       filled′ i j l z (yes q) =

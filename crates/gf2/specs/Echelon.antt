@@ -27,7 +27,7 @@ pub record Echelon (N : ℕ) (vec mask columns : List ℕ) : Type 0 where
   pub shape : Shape N vec
   pub masks-long : length mask ≡ N
   pub columns-long : length columns ≡ N
-  pub spells : (s : ℕ) → s < N → combine (getD mask s 0) columns ≡ getD vec s 0
+  pub combines : (s : ℕ) → s < N → combine (getD mask s 0) columns ≡ getD vec s 0
   pub filled : (s t : ℕ) → s < N → getD vec t 0 ≡ 0 → bit (getD mask s 0) t ≡ 0
 
 -- v has come down to rest: the slots taken off it xor to the difference, and their masks to m

@@ -11,7 +11,7 @@ use lib.Bits.{bitXor, xor-self}
 use lib.ListN.{getD, length, length-map}
 use lib.Seq.{getD-set-other, getD-set-same}
 use Rattle.circuit.specs.Sound.{SoundMarks}
-use Rattle.gf2.proofs.Basis.{basis-names, basis-none-gives, basis-same, basis-spells, members-long}
+use Rattle.gf2.proofs.Basis.{basis-names, basis-none-gives, basis-same, basis-combines, members-long}
 use Rattle.gf2.proofs.Bit.{bit-of-zero}
 use Rattle.gf2.proofs.Combination.{combine-whole}
 use Rattle.gf2.proofs.Over.{xorAll-more}
@@ -140,7 +140,7 @@ module _ (size n most : ℕ) (room : 2 ^ n ≤ size) (marks : List ℕ) (sound :
           ∙ ap (bitXor (κ a))
           (named-xor size member m κ N (rw long (le-refl _)) fits
           ∙ ap (λ (k : ℕ). combine (m % 2 ^ k) (map κ member)) (sym (length-map member κ ∙ long)) ∙ combine-whole m (map κ member)
-          ∙ basis-spells N κ (Other size marks a b) vec mask member basis (κ a) m red)
+          ∙ basis-combines N κ (Other size marks a b) vec mask member basis (κ a) m red)
           ∙ xor-self (κ a)
         where
           long : length member ≡ N
