@@ -2,7 +2,7 @@
 // table_faults. Each function gives the fault's number, and 0 where there is none.
 ghost use mathlib.Core.Path.{_≡_};
 ghost use Rattle.circuit.specs.Gate.{gate, gatesOf};
-ghost use Rattle.circuit.specs.Faults.{wiresFault, listFault, lentFault, shortFault, orElse, listCallFault, listReply};
+ghost use Rattle.circuit.specs.Faults.{wiresFault, listFault, lentFault, shortFault, orElse, listReply};
 ghost use Rattle.circuit.specs.Faults.{cnotFault, phaseFault, gateFault, firstFault};
 use crate::Reply;
 use crate::gates::Kind;
@@ -82,7 +82,7 @@ pub fn or_else(fault: u8, next: u8) -> u8
 pub fn list_reply(n: usize, gates: &[u8], lent: u8) -> Reply
     ensures { λ r. ⌜ r ≡ listReply n (now (gates .entry)) lent ⌝ }
 {
-    let fault = list_call_fault(n, gates.len(), lent);
+    let fault = or_else(wires_fault(n), or_else(list_fault(gates.len()), lent));
     if fault != 0 {
         return Reply::Refused {
             number: fault,
@@ -90,13 +90,6 @@ pub fn list_reply(n: usize, gates: &[u8], lent: u8) -> Reply
         };
     }
     first_fault(n, gates)
-}
-
-// Faults 1, 2 and 8 of it, by the number of its bytes.
-fn list_call_fault(n: usize, bytes: usize, lent: u8) -> u8
-    ensures { λ r. ⌜ r ≡ listCallFault n bytes lent ⌝ }
-{
-    or_else(wires_fault(n), or_else(list_fault(bytes), lent))
 }
 
 // The first of faults 3, 4 and 5 in a list, with its gate index.

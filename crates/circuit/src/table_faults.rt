@@ -3,7 +3,7 @@
 ghost use mathlib.Core.Path.{_≡_};
 ghost use Prim.Native.Nat.{_<_};
 ghost use Rattle.circuit.specs.Limits.{parities, tableBytes};
-ghost use Rattle.circuit.specs.TableFaults.{byteFault, callFault, marksFault, mostAt, tableFault, weightsFault};
+ghost use Rattle.circuit.specs.TableFaults.{callFault, marksFault, mostAt, tableFault, weightsFault};
 use crate::faults::TABLE_RULE;
 use crate::faults::or_else;
 use crate::faults::wires_fault;
@@ -14,11 +14,12 @@ use crate::limits::Mark;
 use crate::limits::TABLE_BYTES;
 use crate::limits::Weight;
 
-// A call that brings weights: 1, then 8 of the outputs lent, then 6.
+// A call that brings weights: 1, then 8 of the outputs lent, then 6. Weights are a byte for each parity, each 0 to 7, and 0 at parity 0
+// and from 2^n up.
 pub fn weights_call_fault(n: usize, lent: u8, weights: &[Weight]) -> u8
     ensures { λ r. ⌜ r ≡ callFault n lent (weightsFault n (now (weights .entry))) ⌝ }
 {
-    call_fault(n, lent, weights_fault(n, weights))
+    call_fault(n, lent, table_fault(n, MAX_WEIGHT, weights))
 }
 
 // A call that brings marks: the same.
@@ -26,13 +27,6 @@ pub fn marks_call_fault(n: usize, lent: u8, marks: &[Mark]) -> u8
     ensures { λ r. ⌜ r ≡ callFault n lent (marksFault n (now (marks .entry))) ⌝ }
 {
     call_fault(n, lent, marks_fault(n, marks))
-}
-
-// Weights: a byte for each parity, each 0 to 7, and 0 at parity 0 and from 2^n up.
-fn weights_fault(n: usize, weights: &[Weight]) -> u8
-    ensures { λ r. ⌜ r ≡ weightsFault n (now (weights .entry)) ⌝ }
-{
-    table_fault(n, MAX_WEIGHT, weights)
 }
 
 // Marks of an odd set: a byte for each parity, each 0 or 1, and 0 at parity 0 and from 2^n up.
@@ -49,6 +43,7 @@ fn call_fault(n: usize, lent: u8, table: u8) -> u8
     or_else(wires_fault(n), or_else(lent, table))
 }
 
+// A table whose bytes are at most what may stand at their places.
 fn table_fault(n: usize, most: u8, table: &[u8]) -> u8
     ensures { λ r. ⌜ r ≡ tableFault tableBytes n most (now (table .entry)) ⌝ }
 {
@@ -57,24 +52,12 @@ fn table_fault(n: usize, most: u8, table: &[u8]) -> u8
     }
     let mut p: usize = 0;
     while p < table.len() {
-        let fault = byte_fault(n, most, p, table[p]);
-        if fault != 0 {
-            return fault;
+        if table[p] > most_at(n, most, p) {
+            return TABLE_RULE;
         }
         p += 1;
     }
     0
-}
-
-fn byte_fault(n: usize, most: u8, p: usize, x: u8) -> u8
-    requires { ⌜ p < parities ⌝ }
-    ensures { λ r. ⌜ r ≡ byteFault n most p x ⌝ }
-{
-    if x <= most_at(n, most, p) {
-        0
-    } else {
-        TABLE_RULE
-    }
 }
 
 // The most that may stand at p: 0 at 0 and from 2^n up.

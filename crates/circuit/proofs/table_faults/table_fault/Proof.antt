@@ -1,12 +1,13 @@
 -- The bytes before place p keep their rule: the fault of the rest is that of the table.
-use mathlib.Core.Path.{_∙_, _≡_}
+use mathlib.Core.Path.{_∙_, _≡_, refl}
 use Prim.Native.Nat.{_-_, _≤_}
 use native.Mathlib.Omega.{arith}
 use lib.ListN.{drop, length}
 use borrow.Author.Needs.{needs}
 use denote.Ref.{now}
+use Rattle.circuit.specs.Faults.{tableRule}
 use Rattle.circuit.specs.Limits.{parities, tableBytes}
-use Rattle.circuit.proofs.TableRule.{fault-after, fault-at, long-table, none-left, other-length}
+use Rattle.circuit.proofs.TableRule.{byte-bad, byte-well, fault-after, fault-at, long-table, none-left, other-length}
 use Rattle.circuit.specs.TableFaults.{bytesFault}
 use Rattle.circuit.proofs.table_faults.table_fault.Statement.{statement}
 use Rattle.circuit.proofs.table_faults.table_fault.Tie as tie
@@ -25,24 +26,24 @@ returns c =
 
 returns-2 : tie.Need-returns-2 Inv-loop μ-loop
 returns-2 c =
-    let after-byte-fault : tie.After-byte-fault Inv-loop μ-loop = search in
+    let m : tie.After-most-at Inv-loop μ-loop = search in
     let at : tie.At-loop Inv-loop μ-loop = search in
-    let start : tie.Start Inv-loop μ-loop = search in
-    let a = start .args in
-    let f = after-byte-fault .byte-fault in
-    fault-at (a .n) (a .most) (now (a .table)) (at .loop .p) (omega arith) (f .result) (f .ensures) (omega arith)
+    let s : tie.Start Inv-loop μ-loop = search in
+    let a = s .args in
+    fault-at (a .n) (a .most) (now (a .table)) (at .loop .p) (omega arith) tableRule
+    (byte-bad (a .n) (a .most) (at .loop .p) _ _ (m .most-at .ensures) (omega arith)) (omega arith)
     ∙ at .loop .inv .2 ∙ long-table parities (a .n) (a .most) (now (a .table)) (at .loop .inv .1)
 
 loop-again : tie.Need-loop-again Inv-loop μ-loop
 loop-again c =
-    let after-byte-fault : tie.After-byte-fault Inv-loop μ-loop = search in
+    let m : tie.After-most-at Inv-loop μ-loop = search in
     let at : tie.At-loop Inv-loop μ-loop = search in
-    let start : tie.Start Inv-loop μ-loop = search in
-    let a = start .args in
-    let f = after-byte-fault .byte-fault in (
+    let s : tie.Start Inv-loop μ-loop = search in
+    let a = s .args in (
       search needs,
       search needs,
-      fault-after (a .n) (a .most) (now (a .table)) (at .loop .p) (omega arith) (f .result) (f .ensures) (omega arith)
+      fault-after (a .n) (a .most) (now (a .table)) (at .loop .p) (omega arith) 0
+          (byte-well (a .n) (a .most) (at .loop .p) _ _ (m .most-at .ensures) (omega arith)) refl
           ∙ at .loop .inv .2,
     )
 
