@@ -2,34 +2,36 @@
 use mathlib.Core.Bool.{Bool, false, true}
 use mathlib.Core.List.{List, [], _++_, _∷_}
 use mathlib.Core.Logic.{inl, inr}
-use mathlib.Core.Path.{_∙_, _≡_, ap, subst, sym}
+use mathlib.Core.Path.{_∙_, _≡_, ap, refl, subst, sym}
 use Prim.Native.Nat.{_+_, _<_, _≤_, ℕ}
 use native.Mathlib.Decide.{decLt}
-use native.Mathlib.Nat.{zero-add}
 use native.Mathlib.Omega.{arith}
 use lib.Dec.{ltb}
-use lib.ListN.{drop, length, length-append, take}
-use lib.Seq.{drop-append-seam, take-append-seam}
+use lib.ListN.{drop, length, take}
+use lib.Seq.{take-append-seam}
 use borrow.Author.Tests.{le-ltb, lt-ltb}
 use Rattle.circuit.proofs.Bytes.{gates-in}
 use Rattle.circuit.proofs.GateKinds.{kind-above, t-is-odd}
 use Rattle.circuit.proofs.Laws.{fault-is-first, odd-set-no-larger}
+use Rattle.circuit.proofs.Placing.{placed-kept}
 use Rattle.circuit.specs.Faults.{AllWellFormed, Has, KindHas, KindWellFormed, WellFormed, firstFault, gateAt, lentOutput, sameWire}
-use Rattle.circuit.specs.Gate.{Gate, bytesOf, gate, gatesOf, kindOf, tGates}
-use Rattle.circuit.specs.Limits.{maxGates, maxWires}
+use Rattle.circuit.specs.Gate.{Gate, bytesOf, gate, gatesOf, kindOf, lastKind, tGates}
+use Rattle.circuit.specs.Lent.{KeptFrom}
+use Rattle.circuit.specs.Limits.{maxGates, maxWires, maxWrittenGates}
+use Rattle.circuit.specs.declared.Reply.{Reply}
 use Rattle.circuit.specs.declared.Reply.the-variants as reply
 use Rattle.circuit.specs.declared.gates.Kind.{Kind}
 use Rattle.circuit.specs.declared.gates.Kind.the-variants.{Cnot, Phase, Unknown}
 use Rattle.synth.proofs.GateBytes.{gates-of-bytes, length-bytes}
 use Rattle.synth.proofs.WriteWays.{longest}
-use Rattle.text.proofs.ReadsWritten.{bytes-more}
-use Rattle.text.proofs.TextLaws.{circuit-reads-back, first-bytes-decide}
-use Rattle.text.proofs.WrittenReads.{AllBytes}
-use Rattle.text.specs.Limits.{replyBytes, textBytes}
-use Rattle.text.specs.Text.{Sayable, Text, circuit, readText}
+use Rattle.text.proofs.ReadsWritten.{bytes-more, reads-written}
+use Rattle.text.proofs.TextLaws.{circuit-reads-back, first-bytes-decide, refused-line-long, reply-fits}
+use Rattle.text.proofs.WrittenReads.{AllBytes, AreBytes}
+use Rattle.text.specs.Limits.{byteValues, replyBytes, textBytes}
+use Rattle.text.specs.Text.{Sayable, Text, circuit, faulty, readText}
 use Rattle.text.specs.Written.{gateLines, wiresLine}
 use Rattle.answer.specs.Entry.{AnswerText, Outcome, Writes-printed}
-use Rattle.answer.specs.Printed.{Prints, PrintsTrim}
+use Rattle.answer.specs.Printed.{Prints, PrintsGates, PrintsTrim}
 use Rattle.answer.specs.declared.Answered.{Answered}
 use Rattle.answer.specs.declared.Answered.the-variants.{Done, Refused}
 
@@ -42,27 +44,44 @@ first-bytes-decide-reply t out out′ r a =
 
 -- ---- what is left in the lent bytes
 
+-- no reply is longer than the longest
+prints-fit : (t : List ℕ) (x : Text) → readText t ≡ x → (bytes : List ℕ) → Prints x bytes → length bytes ≤ replyBytes
+prints-fit t (faulty number place) e bytes p = omega (arith, ap length p, refused-line-long number place)
+prints-fit t (circuit n list) e bytes p = by-gates (firstFault n 0 (gatesOf list)) p
+  where
+    few : n ≤ maxWires
+    few = reads-written t n list e .0 .few
+
+    by-gates : (v : Reply) → PrintsGates v n (gatesOf list) bytes → length bytes ≤ replyBytes
+    by-gates (reply.Refused number place) p = omega (arith, ap length p, refused-line-long number place)
+    by-gates reply.Done p =
+        let c = p .counts in
+        let short : length (p .D) ≤ maxWrittenGates = omega (arith, p .written .short, longest n few) in
+        omega (arith, ap length (p .lines), reply-fits n (c .tin) (c .odd) (c .tout) (c .moves) (p .D) short)
+
 -- the reply is what stands in the first of them, and the others are as they were
 pub record Printed (t out out′ : List ℕ) (count : ℕ) : Type 0 where
   pub prints : Prints (readText t) (take count out′)
   pub long : count ≡ length (take count out′)
   pub within : count ≤ length out′
-  pub rest : drop count out′ ≡ drop count out
+  pub kept : KeptFrom count out out′
 
 module _ (t out out′ : List ℕ) (count : ℕ) where
-  written : Writes-printed (readText t) out out′ count → Printed t out out′ count
-  written (bytes, p, w) =
+  written : replyBytes ≤ length out → Writes-printed (readText t) out out′ count → Printed t out out′ count
+  written h (bytes, p, w) =
       let e : count ≡ length bytes = omega (arith, w .onward) in
       let front : take count out′ ≡ bytes = rw (e, w .written) (take-append-seam bytes (drop (0 + length bytes) out)) in
+      let fits : length bytes ≤ length out = omega (arith, prints-fit t (readText t) refl bytes p) in
+      let kept : KeptFrom count out out′ = rw (e, w .written) (placed-kept out bytes fits) in
       record {
         prints = subst (Prints (readText t)) (sym front) p;
         long = e ∙ sym (ap length front);
-        within = omega (arith, e, ap length (w .written), length-append bytes (drop (0 + length bytes) out));
-        rest = rw (e, w .written) (drop-append-seam bytes (drop (0 + length bytes) out) ∙ rw (zero-add (length bytes)));
+        within = omega (arith, e, kept .long);
+        kept = kept;
       }
 
   pub done-prints : AnswerText t out out′ (Done count) → Printed t out out′ count
-  done-prints a = go (ltb (length out) replyBytes) (a .outcome)
+  done-prints a = go (decLt (length out) replyBytes)
     where
       never : Done count ≡ Refused lentOutput 0 → ⊥
       never e = let z : _≡_ {A = ℕ} 0 1 = cc in omega arith
@@ -70,9 +89,14 @@ module _ (t out out′ : List ℕ) (count : ℕ) where
       same : (k : ℕ) → Done count ≡ Done k → k ≡ count
       same k e = cc
 
-      go : (b : Bool) → Outcome b (readText t) out out′ (Done count) → Printed t out out′ count
-      go true o = absurd (never (o .0))
-      go false o = written (subst (λ (k : ℕ). Writes-printed (readText t) out out′ k) (same (o .0) (o .1)) (o .2))
+      told : (b : Bool) → ltb (length out) replyBytes ≡ b → Outcome b (readText t) out out′ (Done count)
+      told b e = subst (λ (x : Bool). Outcome x (readText t) out out′ (Done count)) e (a .outcome)
+
+      go : Dec (length out < replyBytes) → Printed t out out′ count
+      go (yes h) = absurd (never (told true (lt-ltb (length out) replyBytes h) .0))
+      go (no h) =
+          let o = told false (le-ltb (length out) replyBytes (omega arith)) in
+          written (omega arith) (subst (λ (k : ℕ). Writes-printed (readText t) out out′ k) (same (o .0) (o .1)) (o .2))
 
   -- after a refusal they are as they were, and only too little room is refused
   pub refusal-leaves : (number place : ℕ) → AnswerText t out out′ (Refused number place) → (out′ ≡ out) × (length out < replyBytes)
@@ -131,15 +155,15 @@ module _ (n : ℕ) (list : List ℕ) (said : Sayable n list) where
 -- ---- what is printed is a circuit again
 
 -- the three numbers of a well-formed gate are bytes
-gate-bytes : (n : ℕ) → n ≤ maxWires → (kind a b : ℕ) → WellFormed n (gate kind a b) → (kind < 256) × (a < 256) × (b < 256)
-gate-bytes n h kind a b w = go (decLt 6 kind)
+gate-bytes : (n : ℕ) → n ≤ maxWires → (kind a b : ℕ) → WellFormed n (gate kind a b) → AreBytes kind a b
+gate-bytes n h kind a b w = go (decLt lastKind kind)
   where
-    wires : (k : Kind) → KindWellFormed n k a b → (a < 256) × (b < 256)
+    wires : (k : Kind) → KindWellFormed n k a b → (a < byteValues) × (b < byteValues)
     wires Cnot f = (omega (arith, f .0), omega (arith, f .1))
     wires (Phase v) f = (omega (arith, f .0), omega (arith, f .1))
     wires Unknown f = absurd f
 
-    go : Dec (6 < kind) → (kind < 256) × (a < 256) × (b < 256)
+    go : Dec (lastKind < kind) → AreBytes kind a b
     go (yes l) = absurd (subst (λ (k : Kind). KindWellFormed n k a b) (kind-above kind l) w)
     go (no l) = let f = wires (kindOf kind) w in (omega arith, f .0, f .1)
 

@@ -146,7 +146,8 @@ module _ {t gates gates′ : List ℕ} {r : TextReply} (p : ReadText t gates gat
 -- what a text that reads as a circuit brings
 pub circuit-said : {t gates gates′ : List ℕ} {r : TextReply} {n m : ℕ} → ReadText t gates gates′ r → r ≡ read.Done n m
     → CircuitRead t gates gates′ n m
-circuit-said {t} {gates} {gates′} {r} {n} {m} p is = done-reads t gates gates′ n m (subst (λ (x : TextReply). ReadText t gates gates′ x) is p)
+circuit-said {t} {gates} {gates′} {r} {n} {m} p is =
+    done-reads t gates gates′ n m (subst (λ (x : TextReply). ReadText t gates gates′ x) is p)
 
 -- its gates stand within what was lent
 pub circuit-left : {t gates gates′ : List ℕ} {n m : ℕ} → CircuitRead t gates gates′ n m → gateBytes * m ≤ length gates′

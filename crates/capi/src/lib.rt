@@ -14,7 +14,12 @@ ghost use Rattle.capi.specs.InC.{InC, FindInC, WriteInC, TrimInC, foundO
 ghost use Rattle.capi.specs.InC.{textPlace, textWires, textGates, AnswerInC, answerNumber, answerPlace, answerBytes, MoveInC};
 use answer::Answered;
 use circuit::Reply;
+use circuit::limits::Coefficient;
 use circuit::limits::MOVE_CELLS;
+use circuit::limits::Mark;
+use circuit::limits::MoveCell;
+use circuit::limits::Parity;
+use circuit::limits::Weight;
 use finder::Finding;
 use synth::Written;
 use text::TextReply;
@@ -83,8 +88,8 @@ pub struct SulmedraAnswered {
 pub extern "C" fn sulmedra_read(
     n: usize,
     gates: &[u8],
-    weights: &mut [u8],
-    rows: &mut [u8],
+    weights: &mut [Weight],
+    rows: &mut [Parity],
 ) -> SulmedraReply
     ensures { λ r. ⌜ InC (ReadList n (now (gates .entry)) (now (weights .entry)) (now (rows .entry)) (now (weights .exit))
         (now (rows .exit))) (r .number) (r .place) ⌝ }
@@ -94,7 +99,11 @@ pub extern "C" fn sulmedra_read(
 
 // `weights::odd_set`.
 #[no_mangle]
-pub extern "C" fn sulmedra_odd_set(n: usize, weights: &[u8], marks: &mut [u8]) -> SulmedraReply
+pub extern "C" fn sulmedra_odd_set(
+    n: usize,
+    weights: &[Weight],
+    marks: &mut [Mark],
+) -> SulmedraReply
     ensures { λ r. ⌜ InC (OddSetOf n (now (weights .entry)) (now (marks .entry)) (now (marks .exit))) (r .number) (r .place) ⌝ }
 {
     in_c(weights::odd_set(n, weights, marks))
@@ -104,10 +113,10 @@ pub extern "C" fn sulmedra_odd_set(n: usize, weights: &[u8], marks: &mut [u8]) -
 #[no_mangle]
 pub extern "C" fn sulmedra_coefficients(
     n: usize,
-    weights: &[u8],
-    l: &mut [u8],
-    q: &mut [u8],
-    c: &mut [u8],
+    weights: &[Weight],
+    l: &mut [Coefficient],
+    q: &mut [Coefficient],
+    c: &mut [Coefficient],
 ) -> SulmedraReply
     ensures { λ r. ⌜ InC (CoefficientsOf n (now (weights .entry)) (now (l .entry)) (now (q .entry)) (now (c .entry))
         (now (l .exit)) (now (q .exit)) (now (c .exit))) (r .number) (r .place) ⌝ }
@@ -119,9 +128,9 @@ pub extern "C" fn sulmedra_coefficients(
 #[no_mangle]
 pub extern "C" fn sulmedra_new_weights(
     n: usize,
-    weights: &[u8],
-    marks: &[u8],
-    out: &mut [u8],
+    weights: &[Weight],
+    marks: &[Mark],
+    out: &mut [Weight],
 ) -> SulmedraReply
     ensures { λ r. ⌜ InC (NewWeightsOf n (now (weights .entry)) (now (marks .entry)) (now (out .entry)) (now (out .exit)))
         (r .number) (r .place) ⌝ }
@@ -131,7 +140,11 @@ pub extern "C" fn sulmedra_new_weights(
 
 // `carry::carry_out`.
 #[no_mangle]
-pub extern "C" fn sulmedra_carry_out(n: usize, marks: &mut [u8], cells: &[u8]) -> SulmedraReply
+pub extern "C" fn sulmedra_carry_out(
+    n: usize,
+    marks: &mut [Mark],
+    cells: &[MoveCell],
+) -> SulmedraReply
     ensures { λ r. ⌜ InC (CarriesOut n (now (marks .entry)) (now (cells .entry)) (now (marks .exit))) (r .number) (r .place) ⌝ }
 {
     in_c(carry::carry_out(n, marks, cells))
@@ -139,7 +152,7 @@ pub extern "C" fn sulmedra_carry_out(n: usize, marks: &mut [u8], cells: &[u8]) -
 
 // `finder::find`.
 #[no_mangle]
-pub extern "C" fn sulmedra_find(n: usize, marks: &[u8], cells: &mut [u8]) -> SulmedraFound
+pub extern "C" fn sulmedra_find(n: usize, marks: &[Mark], cells: &mut [MoveCell]) -> SulmedraFound
     ensures { λ r. ⌜ FindInC (FindMove n (now (marks .entry)) (now (cells .entry)) (now (cells .exit)))
         (r .number) (r .place) (r .found) ⌝ }
 {
@@ -150,8 +163,8 @@ pub extern "C" fn sulmedra_find(n: usize, marks: &[u8], cells: &mut [u8]) -> Sul
 #[no_mangle]
 pub extern "C" fn sulmedra_write(
     n: usize,
-    weights: &[u8],
-    rows: &[u8],
+    weights: &[Weight],
+    rows: &[Parity],
     gates: &mut [u8],
 ) -> SulmedraWritten
     ensures { λ r. ⌜ WriteInC (WriteList n (now (weights .entry)) (now (rows .entry)) (now (gates .entry)) (now (gates .exit)))
@@ -166,7 +179,7 @@ pub extern "C" fn sulmedra_trim(
     n: usize,
     gates: &[u8],
     out: &mut [u8],
-    log: &mut [u8],
+    log: &mut [MoveCell],
 ) -> SulmedraTrimmed
     ensures { λ r. ⌜ TrimInC (TrimList n (now (gates .entry)) (now (out .entry)) (now (log .entry)) (now (out .exit)) (now (log .exit)))
         (r .number) (r .place) (r .tin) (r .odd) (r .tout) (r .moves) (r .gates) ⌝ }
@@ -176,7 +189,7 @@ pub extern "C" fn sulmedra_trim(
 
 // `carry::move_at`, as a place in the log.
 #[no_mangle]
-pub extern "C" fn sulmedra_move_at(log: &[u8], k: usize) -> SulmedraPart
+pub extern "C" fn sulmedra_move_at(log: &[MoveCell], k: usize) -> SulmedraPart
     ensures { λ r. ⌜ MoveInC (now (log .entry)) k (r .start) (r .length) ⌝ }
 {
     if k < log.len() / MOVE_CELLS {

@@ -1,15 +1,22 @@
--- The kind of a gate, by its byte: what the code's match tells, and that T and T dagger are the gates that add an odd phase.
-use mathlib.Core.Path.{_∙_, _≡_, refl, sym}
-use Prim.Native.Nat.{_%_, _<_, suc, zero, ℕ}
+-- The kind of a gate, by its byte: what the code's match tells, and that T and T dagger are the gates that add an odd phase. What holds of
+-- every kind is one test, computed at each up to the last.
+use mathlib.Core.Bool.{Bool}
+use mathlib.Core.Path.{_≡_}
+use Prim.Native.Nat.{_%_, _<_, suc, ℕ}
+use native.Mathlib.Decide.{decLt}
 use native.Mathlib.Omega.{arith}
+use lib.Dec.{T as Holds, eqb, eqb→eq, ltb, ltb→lt}
 use borrow.Author.Tests.{ne-eqb}
+use Rattle.gf2.proofs.Every.{every-at}
+use Rattle.gf2.proofs.Sum.{delta-other}
+use Rattle.gf2.specs.Every.{every}
 use Rattle.gf2.specs.Sum.{delta}
-use Rattle.circuit.specs.Gate.{CNOT, S, S-dagger, T, T-dagger, Z, isT, kindOf}
+use Rattle.circuit.specs.Gate.{CNOT, S, S-dagger, T, T-dagger, Z, isT, kindOf, lastKind}
 use Rattle.circuit.specs.declared.gates.Kind.{Kind}
 use Rattle.circuit.specs.declared.gates.Kind.the-variants.{Cnot, Phase, Unknown}
 
 -- past the last kind there is none
-pub kind-above : (kind : ℕ) → T-dagger < kind → kindOf kind ≡ Unknown
+pub kind-above : (kind : ℕ) → lastKind < kind → kindOf kind ≡ Unknown
 unfolding kindOf
 kind-above kind h =
     simp (
@@ -21,41 +28,39 @@ kind-above kind h =
       ne-eqb kind T-dagger (omega arith),
     )
 
--- a phase gate adds less than a whole turn
-pub phase-lt : (kind v : ℕ) → kindOf kind ≡ Phase v → v < 8
-unfolding kindOf
-phase-lt zero v e = absurd (never e)
-  where
-    never : Unknown ≡ Phase v → ⊥
-    never e = let z : _≡_ {A = ℕ} 0 1 = cc in omega arith
-phase-lt (suc zero) v e = absurd (never e)
-  where
-    never : Cnot ≡ Phase v → ⊥
-    never e = let z : _≡_ {A = ℕ} 0 1 = cc in omega arith
-phase-lt (suc (suc zero)) v e = let f : 1 ≡ v = cc in omega arith
-phase-lt (suc (suc (suc zero))) v e = let f : 2 ≡ v = cc in omega arith
-phase-lt (suc (suc (suc (suc zero)))) v e = let f : 4 ≡ v = cc in omega arith
-phase-lt (suc (suc (suc (suc (suc zero))))) v e = let f : 6 ≡ v = cc in omega arith
-phase-lt (suc (suc (suc (suc (suc (suc zero)))))) v e = let f : 7 ≡ v = cc in omega arith
-phase-lt (suc (suc (suc (suc (suc (suc (suc kind))))))) v e =
-    absurd (never (sym (kind-above (suc (suc (suc (suc (suc (suc (suc kind))))))) (omega arith)) ∙ e))
-  where
-    never : Unknown ≡ Phase v → ⊥
-    never e = let z : _≡_ {A = ℕ} 0 1 = cc in omega arith
-
 -- what a gate adds to the phase if bit a is set
 abbrev pub turnOf : Kind → ℕ
 turnOf Cnot = 0
 turnOf (Phase v) = v
 turnOf Unknown = 0
 
+-- it adds less than a whole turn
+turns-small : Holds (every (suc lastKind) (λ k. ltb (turnOf (kindOf k)) 8))
+unfolding every kindOf
+turns-small = tt
+
+turn-lt : (kind : ℕ) → turnOf (kindOf kind) < 8
+turn-lt kind = go (decLt lastKind kind)
+  where
+    go : Dec (lastKind < kind) → turnOf (kindOf kind) < 8
+    go (yes h) = rw (kind-above kind h) (omega arith)
+    go (no h) = ltb→lt _ 8 (every-at (suc lastKind) (λ k. ltb (turnOf (kindOf k)) 8) turns-small kind (omega arith))
+
+pub phase-lt : (kind v : ℕ) → kindOf kind ≡ Phase v → v < 8
+phase-lt kind v e = rw e at (turn-lt kind)
+
+-- an odd number exactly where it is T or T dagger
+odd-turns : Holds (every (suc lastKind) (λ k. eqb (isT k) (turnOf (kindOf k) % 2)))
+unfolding every kindOf isT delta
+odd-turns = tt
+
+t-above : (kind : ℕ) → lastKind < kind → isT kind ≡ 0
+unfolding isT
+t-above kind h = rw (delta-other T kind (omega arith), delta-other T-dagger kind (omega arith))
+
 pub t-is-odd : (kind : ℕ) → isT kind ≡ turnOf (kindOf kind) % 2
-unfolding isT delta kindOf
-t-is-odd zero = refl
-t-is-odd (suc zero) = refl
-t-is-odd (suc (suc zero)) = refl
-t-is-odd (suc (suc (suc zero))) = refl
-t-is-odd (suc (suc (suc (suc zero)))) = refl
-t-is-odd (suc (suc (suc (suc (suc zero))))) = refl
-t-is-odd (suc (suc (suc (suc (suc (suc zero)))))) = refl
-t-is-odd (suc (suc (suc (suc (suc (suc (suc kind))))))) = rw (kind-above (suc (suc (suc (suc (suc (suc (suc kind))))))) (omega arith))
+t-is-odd kind = go (decLt lastKind kind)
+  where
+    go : Dec (lastKind < kind) → isT kind ≡ turnOf (kindOf kind) % 2
+    go (yes h) = rw (kind-above kind h) (t-above kind h)
+    go (no h) = eqb→eq _ _ (every-at (suc lastKind) (λ k. eqb (isT k) (turnOf (kindOf k) % 2)) odd-turns kind (omega arith))

@@ -1,8 +1,8 @@
 -- Bytes stored one after the other in a lent buffer.
 use mathlib.Core.List.{List, [], _∷_, _++_, append-nil}
-use mathlib.Core.Path.{_∙_, _≡_, ap, refl, sym}
+use mathlib.Core.Path.{_∙_, _≡_, ap, refl, subst, sym}
 use Prim.Native.Nat.{_+_, _<_, _≤_, suc, ℕ}
-use native.Mathlib.Nat.{le-refl}
+use native.Mathlib.Nat.{le-refl, zero-add}
 use native.Mathlib.Numerals.{add-one, add-two}
 use native.Mathlib.Omega.{arith}
 use lib.ListN.{drop, drop-of-length-le, getD, length, set, take}
@@ -60,3 +60,8 @@ kept-placed {before} {was} {at} k these h =
           drop-placed was at these h ∙ sym (drop-drop (length these) at was) ∙ ap (drop (length these)) (k .kept)
           ∙ drop-drop (length these) at before;
     }
+
+-- these at the start
+pub placed-kept : (was these : List ℕ) → length these ≤ length was → KeptFrom (length these) was (placed was 0 these)
+placed-kept was these h =
+    subst (λ (k : ℕ). KeptFrom k was (placed was 0 these)) (zero-add (length these)) (kept-placed (kept-all was) these (omega arith))

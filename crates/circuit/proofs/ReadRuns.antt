@@ -14,7 +14,7 @@ use lib.Seq.{getD-set-other, getD-set-same}
 use Rattle.gf2.proofs.Bit.{bit-ext, bit-lt, bit-pow-other, bit-pow-same, bit-scale, bit-xor}
 use Rattle.gf2.proofs.Digits.{bit-digits, digits-lt}
 use Rattle.gf2.proofs.Parity.{parity-lt, parity-pow, parity-xor}
-use Rattle.gf2.proofs.Selection.{carry-lt}
+use Rattle.gf2.proofs.Selection.{remask-lt}
 use Rattle.gf2.proofs.Sum.{sum-ext, sum-zero}
 use Rattle.gf2.proofs.Table.{weightedSum-addAt}
 use Rattle.gf2.specs.Bit.{bit}
@@ -117,7 +117,7 @@ reading-tells N n x fit (g ∷ gs) r s f o t =
 
 kind-within : (n : ℕ) (k : Kind) (a b : ℕ) (s : State) → KindWellFormed n k a b → s .bits < 2 ^ n → runKind k a b s .bits < 2 ^ n
 unfolding runKind
-kind-within n Cnot a b s f l = carry-lt n a (2 ^ b) (s .bits) (pow-lt (f .1)) l
+kind-within n Cnot a b s f l = remask-lt n a (2 ^ b) (s .bits) (pow-lt (f .1)) l
 kind-within n (Phase v) a b s f l = l
 kind-within n Unknown a b s f l = absurd f
 

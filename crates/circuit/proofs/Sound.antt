@@ -12,7 +12,7 @@ use lib.Pow.{high, pow-lt, pow-mono, pow-pos}
 use lib.Seq.{getD-set-other, getD-set-same}
 use borrow.Author.Tests.{le-ltb, lt-ltb}
 use Rattle.gf2.proofs.Bit.{bit-pow-other}
-use Rattle.gf2.proofs.Selection.{carry, carry-lt, carry-nonzero, combine-add, combine-one, combine-units}
+use Rattle.gf2.proofs.Selection.{remask, remask-lt, remask-nonzero, combine-add, combine-one, combine-units}
 use Rattle.gf2.proofs.Table.{getD-tabulate, length-tabulate}
 use Rattle.gf2.specs.Selection.{combine}
 use Rattle.gf2.specs.Table.{addAt, tabulate}
@@ -99,7 +99,7 @@ module _ (N n : ℕ) (fit : n ≤ N) (w : List ℕ) (sound : SoundWeights (2 ^ N
       at p (no ne) = rw (addAt-other w q v p ne) (sound .small p)
 
 -- a combination of the rows after a CNOT is one of the rows before
-pub combine-join : (s a b : ℕ) (rows : List ℕ) → b < length rows → combine s (joinRows a b rows) ≡ combine (carry b (2 ^ a) s) rows
+pub combine-join : (s a b : ℕ) (rows : List ℕ) → b < length rows → combine s (joinRows a b rows) ≡ combine (remask b (2 ^ a) s) rows
 combine-join s a b rows h =
     ap (λ (v : ℕ). combine s (set rows b (bitXor (getD rows b 0) v))) (sym (combine-one a rows)) ∙ combine-add s b (2 ^ a) rows h
 
@@ -118,8 +118,8 @@ module _ (N n : ℕ) (fit : n ≤ N) (rows : List ℕ) (sound : SoundRows N n ro
         within = λ i. at i (ℕ-discrete i b);
         beyond = λ i l. getD-set-other rows b i joined 0 (omega arith) ∙ sound .beyond i l;
         free =
-            λ s z l e. sound .free (carry b (2 ^ a) s) (carry-nonzero b (2 ^ a) (bit-pow-other a b ne) s z)
-            (carry-lt n b (2 ^ a) s (pow-lt la) l) (sym (combine-join s a b rows low) ∙ e);
+            λ s z l e. sound .free (remask b (2 ^ a) s) (remask-nonzero b (2 ^ a) (bit-pow-other a b ne) s z)
+            (remask-lt n b (2 ^ a) s (pow-lt la) l) (sym (combine-join s a b rows low) ∙ e);
       }
     where
       at : (i : ℕ) → Dec (i ≡ b) → getD (set rows b joined) i 0 < 2 ^ n

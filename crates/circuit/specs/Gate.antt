@@ -33,6 +33,10 @@ S-dagger = 5
 abbrev pub T-dagger : ℕ
 T-dagger = 6
 
+-- the kinds are 1 to this
+abbrev pub lastKind : ℕ
+lastKind = T-dagger
+
 -- what a kind says: a CNOT, or a phase gate with the eighths of a turn that it adds; there are no other kinds
 unfoldable pub kindOf : ℕ → Kind
 kindOf kind =

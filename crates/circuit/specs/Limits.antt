@@ -1,6 +1,5 @@
--- The numbers of document 01, each once, and what follows from them. Every law takes the wire count n, and N for the most wires,
--- as a parameter:
--- only contracts cite these.
+-- The numbers of document 01, each once, and what follows from them. Every law takes the wire count n, and N for the most wires, as a
+-- parameter: only contracts cite these.
 use Prim.Native.Nat.{_*_, _+_, _-_, _/_, _^_, ℕ}
 
 -- a wire count is 1 to 8
@@ -44,7 +43,7 @@ moveHead = 2
 
 -- the cells of a move: z, the number in Y, and Y
 abbrev pub moveCells : ℕ
-moveCells = maxMembers + moveHead
+moveCells = moveHead + maxMembers
 
 -- each move takes a member from the odd set, which never has parity 0
 abbrev pub maxMoves : ℕ

@@ -8,10 +8,10 @@ use lib.Dec.{T, eqb, eqb→eq, ltb, ltb→lt}
 use lib.ListN.{getD, length}
 use Rattle.circuit.specs.Limits.{maxWires, parities, productBits}
 use Rattle.gf2.proofs.Brute.{T-both}
+use Rattle.gf2.proofs.Every.{every-at}
 use Rattle.gf2.specs.Bit.{bit}
-use Rattle.moves.proofs.Deciding.{every-at}
+use Rattle.gf2.specs.Every.{every}
 use Rattle.moves.proofs.Products.{product-by-bits}
-use Rattle.moves.specs.Decide.{every}
 use Rattle.moves.specs.Product.{product, tri}
 use Rattle.columns.proofs.Computed.{eachEntry, entry-passes}
 use Rattle.columns.specs.Table.{ProductEntry, ProductTable}

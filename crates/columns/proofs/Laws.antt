@@ -10,7 +10,7 @@ use Rattle.columns.proofs.Entries.{entry-is}
 use Rattle.columns.proofs.Wires.{kappa-wires}
 use Rattle.columns.specs.Table.{ProductEntry, ProductTable}
 
--- `product`: 36 bits with this rule are the product entry
+-- `product`: productBits bits with this rule are the product entry
 pub entry-is-product : (p r : ℕ) → ProductEntry p r → r ≡ product maxWires p
 entry-is-product = entry-is
 

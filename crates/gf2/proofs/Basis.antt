@@ -53,25 +53,25 @@ module _ (N : ℕ) (κ : ℕ → ℕ) where
         record {
           echelon = ech;
           keeps = λ x p. p;
-          has = (r .by, sym (xor-zero-r (combine (r .by) vec)) ∙ r .left);
+          has = (r .by, sym (xor-zero-r (combine (r .by) vec)) ∙ r .taken);
           from = λ s n. inr (n, refl);
         }
 
     -- it opens slot s
-    pub inserted-slot : (s rest m : ℕ) → length member ≡ N → Stopped N vec mask (κ y) s rest m
-        → Inserted N κ y vec mask member (set vec s rest) (set mask s (bitXor m (2 ^ s))) (set member s y)
-    inserted-slot s rest m len t =
+    pub inserted-slot : (s left m : ℕ) → length member ≡ N → Stopped N vec mask (κ y) s left m
+        → Inserted N κ y vec mask member (set vec s left) (set mask s (bitXor m (2 ^ s))) (set member s y)
+    inserted-slot s left m len t =
         record {
-          echelon = rw (map-set κ member s y) (filled-echelon N vec mask (map κ member) (κ y) s rest m ech t);
-          keeps = filled-keeps N vec mask (map κ member) (κ y) s rest m ech t;
-          has = filled-has N vec mask (map κ member) (κ y) s rest m ech t;
+          echelon = rw (map-set κ member s y) (filled-echelon N vec mask (map κ member) (κ y) s left m ech t);
+          keeps = filled-keeps N vec mask (map κ member) (κ y) s left m ech t;
+          has = filled-has N vec mask (map κ member) (κ y) s left m ech t;
           from = λ j n. at j n (ℕ-discrete j s);
         }
       where
-        at : (j : ℕ) → getD (set vec s rest) j 0 ≢ 0 → Dec (j ≡ s)
+        at : (j : ℕ) → getD (set vec s left) j 0 ≢ 0 → Dec (j ≡ s)
             → (getD (set member s y) j 0 ≡ y) ⊎ ((getD vec j 0 ≢ 0) × (getD (set member s y) j 0 ≡ getD member j 0))
         at j n (yes e) = inl (ap (λ (i : ℕ). getD (set member s y) i 0) e ∙ getD-set-same member s y 0 (rw len (t .slot)))
-        at j n (no d) = inr (λ z. n (getD-set-other vec s j rest 0 d ∙ z), getD-set-other member s j y 0 d)
+        at j n (no d) = inr (λ z. n (getD-set-other vec s j left 0 d ∙ z), getD-set-other member s j y 0 d)
 
   -- one column more
   pub basis-more : (P Q : ℕ → Type 0) (vec mask member vec′ mask′ member′ : List ℕ) (y : ℕ)
@@ -99,13 +99,13 @@ module _ (N : ℕ) (κ : ℕ → ℕ) where
     basis-combines v m r = reached-zero vec mask N (map κ member) (h .echelon) v m r
 
     -- which are allowed
-    pub basis-names : (v rest m s : ℕ) → Reached vec mask v rest m → bit m s ≡ 1 → P (getD member s 0)
-    basis-names v rest m s r e =
+    pub basis-names : (v left m s : ℕ) → Reached vec mask v left m → bit m s ≡ 1 → P (getD member s 0)
+    basis-names v left m s r e =
         h .from s
-        (λ z. let q : _≡_ {A = ℕ} 1 0 = sym e ∙ reached-filled vec mask N (map κ member) (h .echelon) v rest m s r z in omega arith)
+        (λ z. let q : _≡_ {A = ℕ} 1 0 = sym e ∙ reached-filled vec mask N (map κ member) (h .echelon) v left m s r z in omega arith)
 
     -- v stopped at an empty slot is the xor of no list of allowed columns
-    pub basis-none-gives : (v s rest m : ℕ) → Stopped N vec mask v s rest m → (W : List ℕ) → ((i : ℕ) → i < length W → P (getD W i 0))
+    pub basis-none-gives : (v s left m : ℕ) → Stopped N vec mask v s left m → (W : List ℕ) → ((i : ℕ) → i < length W → P (getD W i 0))
         → xorAll (map κ W) ≡ v → ⊥
-    basis-none-gives v s rest m t W only e =
-        stopped-none vec mask N v s rest m (h .echelon .shape) t (rw (← e) (span-all vec κ W (λ i l. h .spans (getD W i 0) (only i l))))
+    basis-none-gives v s left m t W only e =
+        stopped-none vec mask N v s left m (h .echelon .shape) t (rw (← e) (span-all vec κ W (λ i l. h .spans (getD W i 0) (only i l))))

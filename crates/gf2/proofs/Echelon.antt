@@ -68,24 +68,24 @@ module _ (N : ℕ) (vec : List ℕ) (shape : Shape N vec) where
       absent N s u (le-refl _) l e (rw w lo) (rw w hi)
 
   -- one step of reducing: s is the next slot
-  pub step-lt : (s rest : ℕ) → s < N → rest < 2 ^ suc s → 2 ^ s ≤ rest → getD vec s 0 ≢ 0 → bitXor rest (getD vec s 0) < 2 ^ s
-  step-lt s rest l hi lo n = xor-top s rest (getD vec s 0) lo hi (shape .lead s l .leads n) (shape .lead s l .fits)
+  pub step-lt : (s left : ℕ) → s < N → left < 2 ^ suc s → 2 ^ s ≤ left → getD vec s 0 ≢ 0 → bitXor left (getD vec s 0) < 2 ^ s
+  step-lt s left l hi lo n = xor-top s left (getD vec s 0) lo hi (shape .lead s l .leads n) (shape .lead s l .fits)
 
 -- ---- reducing
 
 module _ (vec mask : List ℕ) where
   pub reached-start : (v : ℕ) → Reached vec mask v v 0
-  reached-start v = record { by = 0; left = rw (combine-none vec) (xor-zero-l v); masks = combine-none mask }
+  reached-start v = record { by = 0; taken = rw (combine-none vec) (xor-zero-l v); masks = combine-none mask }
 
-  pub reached-step : (v rest m s : ℕ) → Reached vec mask v rest m
-      → Reached vec mask v (bitXor rest (getD vec s 0)) (bitXor m (getD mask s 0))
-  reached-step v rest m s r =
+  pub reached-step : (v left m s : ℕ) → Reached vec mask v left m
+      → Reached vec mask v (bitXor left (getD vec s 0)) (bitXor m (getD mask s 0))
+  reached-step v left m s r =
       record {
         by = bitXor (r .by) (2 ^ s);
-        left =
-            ap (λ (x : ℕ). bitXor x (bitXor rest (getD vec s 0)))
+        taken =
+            ap (λ (x : ℕ). bitXor x (bitXor left (getD vec s 0)))
             (combine-xor (r .by) (2 ^ s) vec ∙ ap (bitXor (combine (r .by) vec)) (combine-one s vec))
-            ∙ swap (combine (r .by) vec) (getD vec s 0) rest ∙ r .left;
+            ∙ swap (combine (r .by) vec) (getD vec s 0) left ∙ r .taken;
         masks = combine-xor (r .by) (2 ^ s) mask ∙ ap₂ bitXor (r .masks) (combine-one s mask);
       }
     where
@@ -93,25 +93,25 @@ module _ (vec mask : List ℕ) where
       swap a b c = rw (xor-assoc a b (bitXor c b), xor-comm b (bitXor c b), xor-cancel c b)
 
   -- stopped at an empty slot, v is no combination
-  pub stopped-none : (N v s rest m : ℕ) → Shape N vec → Stopped N vec mask v s rest m → Span vec v → ⊥
-  stopped-none N v s rest m h t p =
-      no-combination N vec h s rest (bitXor (p .0) (t .reached .by)) (t .slot) (t .empty) (t .lo) (t .hi)
-      (combine-xor (p .0) (t .reached .by) vec ∙ ap (λ (x : ℕ). bitXor x (combine (t .reached .by) vec)) (p .1 ∙ sym (t .reached .left))
-      ∙ back (combine (t .reached .by) vec) rest)
+  pub stopped-none : (N v s left m : ℕ) → Shape N vec → Stopped N vec mask v s left m → Span vec v → ⊥
+  stopped-none N v s left m h t p =
+      no-combination N vec h s left (bitXor (p .0) (t .reached .by)) (t .slot) (t .empty) (t .lo) (t .hi)
+      (combine-xor (p .0) (t .reached .by) vec ∙ ap (λ (x : ℕ). bitXor x (combine (t .reached .by) vec)) (p .1 ∙ sym (t .reached .taken))
+      ∙ back (combine (t .reached .by) vec) left)
     where
       back : (a b : ℕ) → bitXor (bitXor a b) a ≡ b
       back a b = ap (λ (x : ℕ). bitXor x a) (xor-comm a b) ∙ xor-cancel b a
 
   module _ (N : ℕ) (columns : List ℕ) (ech : Echelon N vec mask columns) where
     -- the columns of the slots in m xor to what was taken off v
-    pub reached-combines : (v rest m : ℕ) → Reached vec mask v rest m → bitXor (combine m columns) rest ≡ v
-    reached-combines v rest m r =
-        ap (λ (x : ℕ). bitXor x rest)
-        (ap (λ (x : ℕ). combine x columns) (sym (r .masks)) ∙ combine-combine (r .by) mask columns ∙ ap (combine (r .by)) spelled)
-        ∙ r .left
+    pub reached-combines : (v left m : ℕ) → Reached vec mask v left m → bitXor (combine m columns) left ≡ v
+    reached-combines v left m r =
+        ap (λ (x : ℕ). bitXor x left)
+        (ap (λ (x : ℕ). combine x columns) (sym (r .masks)) ∙ combine-combine (r .by) mask columns ∙ ap (combine (r .by)) combined)
+        ∙ r .taken
       where
-        spelled : map (λ m. combine m columns) mask ≡ vec
-        spelled =
+        combined : map (λ m. combine m columns) mask ≡ vec
+        combined =
             ext-getD 0 (map (λ m. combine m columns) mask) vec
             (length-map mask (λ m. combine m columns) ∙ ech .masks-long ∙ sym (ech .shape .long))
             (λ s l. slot s (rw (length-map mask (λ m. combine m columns), ech .masks-long) at l))
@@ -127,60 +127,60 @@ module _ (vec mask : List ℕ) where
     reached-zero v m r = sym (xor-zero-r (combine m columns)) ∙ reached-combines v 0 m r
 
     -- and m names filled slots only
-    pub reached-filled : (v rest m t : ℕ) → Reached vec mask v rest m → getD vec t 0 ≡ 0 → bit m t ≡ 0
-    reached-filled v rest m t r e =
+    pub reached-filled : (v left m t : ℕ) → Reached vec mask v left m → getD vec t 0 ≡ 0 → bit m t ≡ 0
+    reached-filled v left m t r e =
         rw (← (r .masks)) (combine-bit-none (r .by) t mask (λ s l. ech .filled s t (rw (ech .masks-long) at l) e))
 
 -- ---- slot s filled by the column v that was stopped there
 
-module _ (N : ℕ) (vec mask columns : List ℕ) (v s rest m : ℕ) (ech : Echelon N vec mask columns) (t : Stopped N vec mask v s rest m) where
-  now : getD (set vec s rest) s 0 ≡ rest
-  now = getD-set-same vec s rest 0 (rw (ech .shape .long) (t .slot))
+module _ (N : ℕ) (vec mask columns : List ℕ) (v s left m : ℕ) (ech : Echelon N vec mask columns) (t : Stopped N vec mask v s left m) where
+  now : getD (set vec s left) s 0 ≡ left
+  now = getD-set-same vec s left 0 (rw (ech .shape .long) (t .slot))
 
   -- an empty slot was empty, and is another
-  was : (j : ℕ) → getD (set vec s rest) j 0 ≡ 0 → (j ≢ s) × (getD vec j 0 ≡ 0)
-  was j z = (other, sym (getD-set-other vec s j rest 0 other) ∙ z)
+  was : (j : ℕ) → getD (set vec s left) j 0 ≡ 0 → (j ≢ s) × (getD vec j 0 ≡ 0)
+  was j z = (other, sym (getD-set-other vec s j left 0 other) ∙ z)
     where
       other : j ≢ s
-      other e = omega (arith, sym now ∙ ap (λ (i : ℕ). getD (set vec s rest) i 0) (sym e) ∙ z, t .lo, pow-pos s)
+      other e = omega (arith, sym now ∙ ap (λ (i : ℕ). getD (set vec s left) i 0) (sym e) ∙ z, t .lo, pow-pos s)
 
   unseen : (x : ℕ) → bit x s ≡ 0 → combine x (set columns s v) ≡ combine x columns
   unseen x e = combine-unseen x s v columns (rw (ech .columns-long) (t .slot)) e
 
-  -- the new mask combines rest
-  opened : combine (bitXor m (2 ^ s)) (set columns s v) ≡ rest
+  -- the new mask combines left
+  opened : combine (bitXor m (2 ^ s)) (set columns s v) ≡ left
   opened =
       combine-xor m (2 ^ s) (set columns s v)
-      ∙ ap₂ bitXor (unseen m (reached-filled vec mask N columns ech v rest m s (t .reached) (t .empty)))
+      ∙ ap₂ bitXor (unseen m (reached-filled vec mask N columns ech v left m s (t .reached) (t .empty)))
       (combine-one s (set columns s v) ∙ getD-set-same columns s v 0 (rw (ech .columns-long) (t .slot)))
-      ∙ ap (bitXor (combine m columns)) (sym (reached-combines vec mask N columns ech v rest m (t .reached)))
-      ∙ sym (xor-assoc (combine m columns) (combine m columns) rest) ∙ rw (xor-self (combine m columns)) (xor-zero-l rest)
+      ∙ ap (bitXor (combine m columns)) (sym (reached-combines vec mask N columns ech v left m (t .reached)))
+      ∙ sym (xor-assoc (combine m columns) (combine m columns) left) ∙ rw (xor-self (combine m columns)) (xor-zero-l left)
 
-  pub filled-echelon : Echelon N (set vec s rest) (set mask s (bitXor m (2 ^ s))) (set columns s v)
+  pub filled-echelon : Echelon N (set vec s left) (set mask s (bitXor m (2 ^ s))) (set columns s v)
   filled-echelon =
       record {
-        shape = record { long = length-set vec s rest ∙ ech .shape .long; lead = λ i l. lead′ i l (ℕ-discrete i s) };
+        shape = record { long = length-set vec s left ∙ ech .shape .long; lead = λ i l. lead′ i l (ℕ-discrete i s) };
         masks-long = length-set mask s (bitXor m (2 ^ s)) ∙ ech .masks-long;
         columns-long = length-set columns s v ∙ ech .columns-long;
         combines = λ i l. combines′ i l (ℕ-discrete i s);
         filled = λ i j l z. filled′ i j l z (ℕ-discrete i s);
       }
     where
-      lead′ : (i : ℕ) → i < N → Dec (i ≡ s) → Lead i (getD (set vec s rest) i 0)
+      lead′ : (i : ℕ) → i < N → Dec (i ≡ s) → Lead i (getD (set vec s left) i 0)
       lead′ i l (yes q) = rw (q, now) (record { fits = t .hi; leads = λ n. t .lo })
-      lead′ i l (no n) = rw (getD-set-other vec s i rest 0 n) (ech .shape .lead i l)
+      lead′ i l (no n) = rw (getD-set-other vec s i left 0 n) (ech .shape .lead i l)
 
       masked : getD (set mask s (bitXor m (2 ^ s))) s 0 ≡ bitXor m (2 ^ s)
       masked = getD-set-same mask s (bitXor m (2 ^ s)) 0 (rw (ech .masks-long) (t .slot))
 
       combines′ : (i : ℕ) → i < N → Dec (i ≡ s)
-          → combine (getD (set mask s (bitXor m (2 ^ s))) i 0) (set columns s v) ≡ getD (set vec s rest) i 0
+          → combine (getD (set mask s (bitXor m (2 ^ s))) i 0) (set columns s v) ≡ getD (set vec s left) i 0
       combines′ i l (yes q) = rw (q, masked, now) opened
       combines′ i l (no n) =
-          rw (getD-set-other mask s i (bitXor m (2 ^ s)) 0 n, getD-set-other vec s i rest 0 n)
+          rw (getD-set-other mask s i (bitXor m (2 ^ s)) 0 n, getD-set-other vec s i left 0 n)
           (unseen (getD mask i 0) (ech .filled i s l (t .empty)) ∙ ech .combines i l)
 
-      filled′ : (i j : ℕ) → i < N → getD (set vec s rest) j 0 ≡ 0 → Dec (i ≡ s) → bit (getD (set mask s (bitXor m (2 ^ s))) i 0) j ≡ 0
+      filled′ : (i j : ℕ) → i < N → getD (set vec s left) j 0 ≡ 0 → Dec (i ≡ s) → bit (getD (set mask s (bitXor m (2 ^ s))) i 0) j ≡ 0
       filled′ i j l z (yes q) =
           let w = was j z in
           rw (
@@ -188,28 +188,28 @@ module _ (N : ℕ) (vec mask columns : List ℕ) (v s rest m : ℕ) (ech : Echel
             masked,
             bit-xor m (2 ^ s) j,
             bit-pow-other s j (λ x. w .0 (sym x)),
-            reached-filled vec mask N columns ech v rest m j (t .reached) (w .1),
+            reached-filled vec mask N columns ech v left m j (t .reached) (w .1),
           )
       filled′ i j l z (no n) = let w = was j z in rw (getD-set-other mask s i (bitXor m (2 ^ s)) 0 n) (ech .filled i j l (w .1))
 
   -- the span only grows
-  pub filled-keeps : (x : ℕ) → Span vec x → Span (set vec s rest) x
+  pub filled-keeps : (x : ℕ) → Span vec x → Span (set vec s left) x
   filled-keeps x p =
       let u : ℕ = p .0 in
       let b : ℕ = bit u s in (
         bitXor u (b * 2 ^ s),
-        combine-xor u (b * 2 ^ s) (set vec s rest)
+        combine-xor u (b * 2 ^ s) (set vec s left)
             ∙ ap₂ bitXor
-            (combine-put u s rest vec (rw (ech .shape .long) (t .slot))
-            ∙ ap (λ (y : ℕ). bitXor (combine u vec) (b * y)) (rw (t .empty) (xor-zero-l rest)))
-            (combine-scale b (2 ^ s) (set vec s rest) (bit-lt u s) ∙ ap (λ (y : ℕ). b * y) (combine-one s (set vec s rest) ∙ now))
-            ∙ xor-cancel (combine u vec) (b * rest) ∙ p .1,
+            (combine-put u s left vec (rw (ech .shape .long) (t .slot))
+            ∙ ap (λ (y : ℕ). bitXor (combine u vec) (b * y)) (rw (t .empty) (xor-zero-l left)))
+            (combine-scale b (2 ^ s) (set vec s left) (bit-lt u s) ∙ ap (λ (y : ℕ). b * y) (combine-one s (set vec s left) ∙ now))
+            ∙ xor-cancel (combine u vec) (b * left) ∙ p .1,
       )
 
   -- and has v
-  pub filled-has : Span (set vec s rest) v
+  pub filled-has : Span (set vec s left) v
   filled-has =
       let u : ℕ = t .reached .by in
-      rw (← (t .reached .left))
-      (span-xor (set vec s rest) (combine u vec) rest (filled-keeps (combine u vec) (u, refl))
-      (2 ^ s, combine-one s (set vec s rest) ∙ now))
+      rw (← (t .reached .taken))
+      (span-xor (set vec s left) (combine u vec) left (filled-keeps (combine u vec) (u, refl))
+      (2 ^ s, combine-one s (set vec s left) ∙ now))

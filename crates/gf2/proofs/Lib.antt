@@ -9,6 +9,7 @@ pub mod Table
 pub mod Over
 pub mod Blocks
 pub mod Brute
+pub mod Every
 pub mod Cubic
 pub mod Pairing
 pub mod Dependence
@@ -18,5 +19,5 @@ pub mod Echelon
 pub mod Basis
 pub mod Symmetric
 pub mod Expansion
-pub mod Gather
+pub mod XorInto
 pub mod BitCounts

@@ -71,31 +71,31 @@ combine-set s (suc b) v (y ∷ ys) h =
     rw (bit-suc s b, combine-set (s / 2) b v ys (omega arith)) (sym (xor-assoc (s % 2 * y) (combine (s / 2) ys) (bit (s / 2) b * v)))
 
 -- the mask s after "place t goes to each place of q": a combination of the changed list is one of the list before
-abbrev pub carry : ℕ → ℕ → ℕ → ℕ
-carry t q s = bitXor s (bit s t * q)
+abbrev pub remask : ℕ → ℕ → ℕ → ℕ
+remask t q s = bitXor s (bit s t * q)
 
 pub combine-add : (s t q : ℕ) (ys : List ℕ) → t < length ys
-    → combine s (set ys t (bitXor (getD ys t 0) (combine q ys))) ≡ combine (carry t q s) ys
+    → combine s (set ys t (bitXor (getD ys t 0) (combine q ys))) ≡ combine (remask t q s) ys
 combine-add s t q ys h =
     combine-set s t (combine q ys) ys h
     ∙ sym (combine-xor s (bit s t * q) ys ∙ ap (bitXor (combine s ys)) (combine-scale (bit s t) q ys (bit-lt s t)))
 
 module _ (t q : ℕ) (off : bit q t ≡ 0) where
-  pub carry-kept : (s : ℕ) → bit (carry t q s) t ≡ bit s t
-  carry-kept s = rw (bit-xor s (bit s t * q) t, bit-scale (bit s t) q t (bit-lt s t), off) (omega (arith, bit-lt s t))
+  pub remask-kept : (s : ℕ) → bit (remask t q s) t ≡ bit s t
+  remask-kept s = rw (bit-xor s (bit s t * q) t, bit-scale (bit s t) q t (bit-lt s t), off) (omega (arith, bit-lt s t))
 
   -- an involution
-  pub carry-twice : (s : ℕ) → carry t q (carry t q s) ≡ s
-  carry-twice s = rw (carry-kept s) (xor-cancel s (bit s t * q))
+  pub remask-twice : (s : ℕ) → remask t q (remask t q s) ≡ s
+  remask-twice s = rw (remask-kept s) (xor-cancel s (bit s t * q))
 
-  pub carry-zero : carry t q 0 ≡ 0
-  carry-zero = rw (bit-of-zero t) (zero-mul q)
+  pub remask-zero : remask t q 0 ≡ 0
+  remask-zero = rw (bit-of-zero t) (zero-mul q)
 
-  pub carry-nonzero : (s : ℕ) → s ≢ 0 → carry t q s ≢ 0
-  carry-nonzero s h e = h (sym (carry-twice s) ∙ ap (carry t q) e ∙ carry-zero)
+  pub remask-nonzero : (s : ℕ) → s ≢ 0 → remask t q s ≢ 0
+  remask-nonzero s h e = h (sym (remask-twice s) ∙ ap (remask t q) e ∙ remask-zero)
 
-pub carry-lt : (n t q s : ℕ) → q < 2 ^ n → s < 2 ^ n → carry t q s < 2 ^ n
-carry-lt n t q s hq hs = xor-lt n s (bit s t * q) hs (scale-lt (bit s t) q (2 ^ n) (bit-lt s t) hq)
+pub remask-lt : (n t q s : ℕ) → q < 2 ^ n → s < 2 ^ n → remask t q s < 2 ^ n
+remask-lt n t q s hq hs = xor-lt n s (bit s t * q) hs (scale-lt (bit s t) q (2 ^ n) (bit-lt s t) hq)
 
 pub mod-next : (s k : ℕ) → s % 2 ^ suc k ≡ bitXor (s % 2 ^ k) (bit s k * 2 ^ k)
 unfolding bit

@@ -30,19 +30,19 @@ pub record Echelon (N : ℕ) (vec mask columns : List ℕ) : Type 0 where
   pub combines : (s : ℕ) → s < N → combine (getD mask s 0) columns ≡ getD vec s 0
   pub filled : (s t : ℕ) → s < N → getD vec t 0 ≡ 0 → bit (getD mask s 0) t ≡ 0
 
--- v has come down to rest: the slots taken off it xor to the difference, and their masks to m
-pub record Reached (vec mask : List ℕ) (v rest m : ℕ) : Type 0 where
+-- what is left of v after some slots were taken off it: these xor to the difference, and their masks to m
+pub record Reached (vec mask : List ℕ) (v left m : ℕ) : Type 0 where
   pub by : ℕ
-  pub left : bitXor (combine by vec) rest ≡ v
+  pub taken : bitXor (combine by vec) left ≡ v
   pub masks : combine by mask ≡ m
 
 -- and is stopped at slot s, which is empty
-pub record Stopped (N : ℕ) (vec mask : List ℕ) (v s rest m : ℕ) : Type 0 where
+pub record Stopped (N : ℕ) (vec mask : List ℕ) (v s left m : ℕ) : Type 0 where
   pub slot : s < N
   pub empty : getD vec s 0 ≡ 0
-  pub lo : 2 ^ s ≤ rest
-  pub hi : rest < 2 ^ suc s
-  pub reached : Reached vec mask v rest m
+  pub lo : 2 ^ s ≤ left
+  pub hi : left < 2 ^ suc s
+  pub reached : Reached vec mask v left m
 
 -- ---- the echelon of the columns κ y of some y
 

@@ -5,3 +5,4 @@ pub mod Selection
 pub mod Table
 pub mod Over
 pub mod Echelon
+pub mod Every

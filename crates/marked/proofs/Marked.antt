@@ -5,12 +5,13 @@ use Rattle.circuit.specs.Gate.{isT, kindOf, tGates}
 use Rattle.circuit.specs.OddSet.{members, oddSet}
 use Rattle.circuit.specs.Read.{firstRows, noWeights, readFrom, readKind}
 use Rattle.gf2.specs.Bit.{bit}
+use Rattle.gf2.specs.Every.{any, every}
 use Rattle.gf2.specs.Over.{sumOver, xorAll}
 use Rattle.gf2.specs.Selection.{combine}
 use Rattle.gf2.specs.Sum.{delta, sum}
 use Rattle.gf2.specs.Table.{tabulate, weightedSum}
 use Rattle.moves.specs.CarryOut.{carryOut, flipIf, flipPairs}
-use Rattle.moves.specs.Decide.{any, every, isLegal, sameCells}
+use Rattle.moves.specs.Decide.{isLegal, sameCells}
 use Rattle.phase.specs.Coefficients.{c, l, q}
 use Rattle.marked.proofs.Testing.{all-claimed, allC, allHold, allL, allQ, holds, isRefusal}
 use Rattle.marked.specs.Cases.{AllClaimed, cases, onesTo, rowsWith, weightsWith}

@@ -11,10 +11,12 @@ use Rattle.circuit.specs.Limits.{maxMembers, maxWires}
 use Rattle.circuit.specs.OddSet.{members, oddSet}
 use Rattle.circuit.specs.Read.{read}
 use Rattle.gf2.proofs.Brute.{T-both}
+use Rattle.gf2.proofs.Every.{every-at}
+use Rattle.gf2.specs.Every.{every}
 use Rattle.gf2.specs.Selection.{combine}
-use Rattle.moves.proofs.Deciding.{every-at, legal-decided, same-decided}
+use Rattle.moves.proofs.Deciding.{legal-decided, same-decided}
 use Rattle.moves.specs.CarryOut.{carryOut}
-use Rattle.moves.specs.Decide.{every, isLegal, sameCells}
+use Rattle.moves.specs.Decide.{isLegal, sameCells}
 use Rattle.phase.specs.Coefficients.{c, l, q}
 use Rattle.marked.specs.Cases.{AllClaimed, Case, Claim, coefficients, dependent, leaves, reads, refuses, rowsWith, weightsWith}
 use Rattle.circuit.specs.declared.Reply.{Reply}

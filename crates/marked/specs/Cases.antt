@@ -4,7 +4,7 @@ use mathlib.Core.Path.{_≡_}
 use Prim.Native.Nat.{_-_, _<_, suc, zero, ℕ}
 use lib.ListN.{length, replicate, set}
 use Rattle.circuit.specs.Faults.{firstFault, sameWire}
-use Rattle.circuit.specs.Gate.{Gate, gate, tGates}
+use Rattle.circuit.specs.Gate.{CNOT, Gate, T, T-dagger, gate, tGates}
 use Rattle.circuit.specs.Limits.{maxMembers, maxWires, rowCells}
 use Rattle.circuit.specs.OddSet.{members, oddSet}
 use Rattle.circuit.specs.Read.{noWeights, read}
@@ -59,14 +59,15 @@ abbrev pub AllClaimed : List Case → Type 0
 AllClaimed [] = Unit {0}
 AllClaimed (k ∷ ks) = Claim k × AllClaimed ks
 
-abbrev pub CNOT : ℕ → ℕ → Gate
-CNOT a b = gate 1 a b
+-- a CNOT, a T and a T dagger, each on its wires
+abbrev pub cnot : ℕ → ℕ → Gate
+cnot a b = gate CNOT a b
 
-abbrev pub T-gate : ℕ → Gate
-T-gate a = gate 2 a 0
+abbrev pub t : ℕ → Gate
+t a = gate T a 0
 
-abbrev pub T-dagger : ℕ → Gate
-T-dagger a = gate 6 a 0
+abbrev pub t-dagger : ℕ → Gate
+t-dagger a = gate T-dagger a 0
 
 -- weight 1 on the parities 1 to k
 unfoldable pub onesTo : ℕ → List Entry
@@ -77,13 +78,13 @@ onesTo (suc k) = at (suc k) 1 ∷ onesTo k
 unfoldable pub cases : List Case
 cases =
     reads 1 [] [] (1 ∷ []) 0 0
-    ∷ reads 1 (T-gate 0 ∷ []) (at 1 1 ∷ []) (1 ∷ []) 1 1
-    ∷ reads 1 (T-gate 0 ∷ T-dagger 0 ∷ []) [] (1 ∷ []) 2 0
-    ∷ reads 2 (CNOT 0 1 ∷ T-gate 1 ∷ []) (at 3 1 ∷ []) (1 ∷ 3 ∷ []) 1 1
-    ∷ reads 2 (CNOT 0 1 ∷ CNOT 1 0 ∷ CNOT 0 1 ∷ []) [] (2 ∷ 1 ∷ []) 0 0
+    ∷ reads 1 (t 0 ∷ []) (at 1 1 ∷ []) (1 ∷ []) 1 1
+    ∷ reads 1 (t 0 ∷ t-dagger 0 ∷ []) [] (1 ∷ []) 2 0
+    ∷ reads 2 (cnot 0 1 ∷ t 1 ∷ []) (at 3 1 ∷ []) (1 ∷ 3 ∷ []) 1 1
+    ∷ reads 2 (cnot 0 1 ∷ cnot 1 0 ∷ cnot 0 1 ∷ []) [] (2 ∷ 1 ∷ []) 0 0
     ∷ coefficients 3 (at 1 1 ∷ at 2 1 ∷ at 4 1 ∷ at 7 1 ∷ at 3 7 ∷ at 5 7 ∷ at 6 7 ∷ []) 0 0 1
     ∷ coefficients 4 (onesTo 15) 0 0 0
     ∷ leaves 4 (onesTo 15) 1 (2 ∷ 4 ∷ 6 ∷ 8 ∷ 10 ∷ 12 ∷ 14 ∷ []) []
     ∷ dependent 2 (1 ∷ 1 ∷ []) 3
-    ∷ refuses 1 (CNOT 0 0 ∷ []) sameWire 0
+    ∷ refuses 1 (cnot 0 0 ∷ []) sameWire 0
     ∷ []

@@ -147,9 +147,9 @@ module _ (size n most : ℕ) (room : 2 ^ n ≤ size) (marks : List ℕ) (sound :
           long = members-long N κ (Other size marks a b) vec mask member basis
 
   -- the column of a was stopped at an empty slot: no move has a in Y and b not in Y
-  pub none : (s rest m : ℕ) → Stopped N vec mask (kappa n z t a) s rest m → Offer most n marks a b → ⊥
-  none s rest m stopped o =
+  pub none : (s left m : ℕ) → Stopped N vec mask (kappa n z t a) s left m → Offer most n marks a b → ⊥
+  none s left m stopped o =
       let r : Reach most n t marks a b = reach size n most room marks sound a b t ma mb t-lt pair-t o in
-      basis-none-gives N κ (Other size marks a b) vec mask member basis (κ a) s rest m stopped (r .W)
+      basis-none-gives N κ (Other size marks a b) vec mask member basis (κ a) s left m stopped (r .W)
       (λ i l. other-wider (2 ^ n) size marks a b room (getD (r .W) i 0) (r .others (getD (r .W) i 0) (i, l, refl)))
       (ap (λ (x : ℕ). xorAll (map (kappa n x t) (r .W))) z-is ∙ r .reaches ∙ ap (λ (x : ℕ). kappa n x t a) (sym z-is))

@@ -109,7 +109,7 @@ pub replay-shrinks : (size n most : ℕ) → 2 ^ n ≤ size → (m : List ℕ) (
     → Replays most n m moves m′ → length moves + members m′ ≤ members m
 replay-shrinks = replays-shrinks
 
--- ---- up to eight wires
+-- ---- the limits
 
 -- the marks have room, Y may have as many members as the bound's proof needs, and an entry has productBits bits
 pub limits-suffice : (n : ℕ) → n ≤ maxWires → (2 ^ n ≤ parities) × (tri n + 1 ≤ maxMembers) × (tri maxWires ≡ productBits)
@@ -119,6 +119,6 @@ limits-suffice n h = (pow-mono {i = n} {j = maxWires} h, few, refl)
     few : n * (n + 1) / 2 + 1 ≤ maxMembers
     few = omega (arith, tri-mono n maxWires h)
 
--- document 01's numbers: entries of 36 bits, cells a move, a log of 10,200
+-- document 01's numbers: entries of 36 bits, forty cells a move, a log of 10,200
 pub limits-numbers : (productBits ≡ 36) × (moveCells ≡ 40) × (logCells ≡ 10200)
 limits-numbers = (refl, refl, refl)

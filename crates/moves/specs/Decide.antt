@@ -1,24 +1,15 @@
 -- Legality as tests that compute: the same conditions, looked at one by one.
-use mathlib.Core.Bool.{Bool, _&&_, _||_, false, not, true}
+use mathlib.Core.Bool.{Bool, _&&_, false, not, true}
 use mathlib.Core.List.{List, [], _∷_}
-use Prim.Native.Nat.{_%_, _-_, suc, zero, ℕ}
+use Prim.Native.Nat.{_%_, _-_, suc, ℕ}
 use lib.Bits.{bitXor}
 use lib.Dec.{eqb, leb, ltb}
 use lib.ListN.{getD, length}
 use Rattle.circuit.specs.Sound.{weight}
+use Rattle.gf2.specs.Every.{any, every}
 use Rattle.gf2.specs.Over.{sumOver, xorAll}
 use Rattle.moves.specs.Log.{asCells, setOf, zOf}
 use Rattle.moves.specs.Move.{triple}
-
--- the test holds of every number below k
-unfoldable pub every : ℕ → (ℕ → Bool) → Bool
-every zero test = true
-every (suc k) test = test k && every k test
-
--- the test holds of some number below k
-unfoldable pub any : ℕ → (ℕ → Bool) → Bool
-any zero test = false
-any (suc k) test = test k || any k test
 
 abbrev pub isIn : ℕ → List ℕ → Bool
 isIn y Y = any (length Y) (λ i. eqb (getD Y i 0) y)

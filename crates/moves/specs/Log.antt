@@ -6,9 +6,10 @@ use mathlib.Core.Path.{_≡_}
 use Prim.Native.Nat.{_*_, _+_, _-_, _<_, _≤_, suc, zero, ℕ}
 use lib.Dec.{leb}
 use lib.ListN.{drop, getD, length, replicate, take}
+use Rattle.circuit.specs.Limits.{moveHead}
 use Rattle.moves.specs.Move.{Legal}
 
--- z, the number in Y, Y ascending, zeros: most + 2 cells in all
+-- z, the number in Y, Y ascending, zeros: most + moveHead cells in all
 unfoldable pub asCells : ℕ → ℕ → List ℕ → List ℕ
 asCells most z Y = z ∷ length Y ∷ (Y ++ replicate (most - length Y) 0)
 
@@ -17,7 +18,7 @@ abbrev pub zOf : List ℕ → ℕ
 zOf cells = getD cells 0 0
 
 abbrev pub setOf : List ℕ → List ℕ
-setOf cells = take (getD cells 1 0) (drop 2 cells)
+setOf cells = take (getD cells 1 0) (drop moveHead cells)
 
 -- the cells from a place on are zeros
 abbrev pub ZeroFrom : ℕ → List ℕ → Type 0
@@ -25,9 +26,9 @@ ZeroFrom start cells = (i : ℕ) → start ≤ i → i < length cells → getD c
 
 -- the cells of some move: z, the number in Y, at most `most` in Y, zeros
 pub record MoveForm (most : ℕ) (cells : List ℕ) : Type 0 where
-  pub long : length cells ≡ most + 2
+  pub long : length cells ≡ most + moveHead
   pub few : getD cells 1 0 ≤ most
-  pub zeros : ZeroFrom (getD cells 1 0 + 2) cells
+  pub zeros : ZeroFrom (getD cells 1 0 + moveHead) cells
 
 -- the cells are those of a legal move for these marks
 pub record LegalCells (most n : ℕ) (marks cells : List ℕ) : Type 0 where

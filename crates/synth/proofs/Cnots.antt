@@ -15,7 +15,7 @@ use Rattle.circuit.specs.Gate.{kindOf}
 use Rattle.circuit.specs.Read.{Reading, joinRows, readFrom, readKind, row, withRows}
 use Rattle.gf2.proofs.Bit.{bit-lt}
 use Rattle.gf2.proofs.BitCounts.{bits-at-most, flip-other, flip-same}
-use Rattle.gf2.proofs.Gather.{gather}
+use Rattle.gf2.proofs.XorInto.{xorInto}
 use Rattle.gf2.proofs.Selection.{combine-first, combine-next}
 use Rattle.gf2.proofs.Sum.{sum-update}
 use Rattle.gf2.proofs.Xor.{xor-assoc}
@@ -29,9 +29,9 @@ use Rattle.synth.specs.Writing.{cnotIf, cnots}
 -- ---- reading
 
 -- one more wire, k, goes into t
-gather-one : (t k m : ℕ) (rows : List ℕ) → t < length rows → k ≢ t
-    → joinRows k t (gather t m rows) ≡ set rows t (bitXor (getD rows t 0) (bitXor (combine m rows) (getD rows k 0)))
-gather-one t k m rows h ne =
+into-one : (t k m : ℕ) (rows : List ℕ) → t < length rows → k ≢ t
+    → joinRows k t (xorInto t m rows) ≡ set rows t (bitXor (getD rows t 0) (bitXor (combine m rows) (getD rows k 0)))
+into-one t k m rows h ne =
     let v : ℕ = bitXor (getD rows t 0) (combine m rows) in
     set-set rows t v (bitXor (getD (set rows t v) t 0) (getD (set rows t v) k 0))
     ∙ ap (set rows t)
@@ -52,7 +52,7 @@ module _ (t : ℕ) (r : Reading) (low : t < length (r .rows)) where
   unfolding into cnotIf readFrom readKind kindOf
   one-reads zero k m l ne = ap into (sym (ap (bitXor (combine m (r .rows))) (zero-mul (row r k)) ∙ xor-zero-r (combine m (r .rows))))
   one-reads (suc zero) k m l ne =
-      ap (λ (rows : List ℕ). withRows rows r) (gather-one t k m (r .rows) low (ne refl))
+      ap (λ (rows : List ℕ). withRows rows r) (into-one t k m (r .rows) low (ne refl))
       ∙ ap (λ (y : ℕ). into (bitXor (combine m (r .rows)) y)) (sym (one-mul (row r k)))
   one-reads (suc (suc c)) k m l ne = absurd (omega arith)
 
@@ -66,7 +66,7 @@ module _ (t : ℕ) (r : Reading) (low : t < length (r .rows)) where
       ∙ one-reads (bit q k) k (q % 2 ^ k) (bit-lt q k) (apart q t k off) ∙ ap into (sym (combine-next q k (r .rows)))
 
   -- the parities of the wires of q go into wire t; all else stays
-  pub read-cnots : (n q : ℕ) → q < 2 ^ n → bit q t ≡ 0 → readFrom (cnots n q t) r ≡ withRows (gather t q (r .rows)) r
+  pub read-cnots : (n q : ℕ) → q < 2 ^ n → bit q t ≡ 0 → readFrom (cnots n q t) r ≡ withRows (xorInto t q (r .rows)) r
   unfolding into
   read-cnots n q l off = cnots-below n q off ∙ ap (λ (m : ℕ). into (combine m (r .rows))) (mod-eq-of-lt l)
 

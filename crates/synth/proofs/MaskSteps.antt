@@ -16,8 +16,8 @@ use Rattle.circuit.specs.Faults.{AllWellFormed}
 use Rattle.circuit.specs.Read.{Reading, firstRows, readFrom, withRows}
 use Rattle.gf2.proofs.Bit.{bit-lt, bit-of-zero, bit-pow-other, bit-pow-same, bit-scale, bit-values, bit-xor}
 use Rattle.gf2.proofs.BitCounts.{flip-same}
-use Rattle.gf2.proofs.Gather.{combine-gather, gather}
-use Rattle.gf2.proofs.Selection.{carry, carry-lt, carry-nonzero, carry-twice, scale-lt}
+use Rattle.gf2.proofs.XorInto.{combine-into, xorInto}
+use Rattle.gf2.proofs.Selection.{remask, remask-lt, remask-nonzero, remask-twice, scale-lt}
 use Rattle.gf2.proofs.Sum.{sum-ext, sum-single, sum-zero}
 use Rattle.gf2.proofs.Xor.{xor-assoc}
 use Rattle.gf2.specs.Bit.{bit}
@@ -30,16 +30,16 @@ use Rattle.synth.specs.Writing.{cnots, filled, lack, nextMasks, recount,
 
 -- ---- the masks after CNOTs
 
-pub recount-at : (t q i : ℕ) (masks : List ℕ) → getD (recount t q masks) i 0 ≡ carry t q (getD masks i 0)
+pub recount-at : (t q i : ℕ) (masks : List ℕ) → getD (recount t q masks) i 0 ≡ remask t q (getD masks i 0)
 unfolding recount
-recount-at t q i masks = ap (λ (z : ℕ). getD (map (carry t q) masks) i z) (sym zeroed) ∙ List·getD-map (carry t q) masks i 0
+recount-at t q i masks = ap (λ (z : ℕ). getD (map (remask t q) masks) i z) (sym zeroed) ∙ List·getD-map (remask t q) masks i 0
   where
-    zeroed : carry t q 0 ≡ 0
+    zeroed : remask t q 0 ≡ 0
     zeroed = rw (bit-of-zero t) (zero-mul q)
 
 pub length-recount : (t q : ℕ) (masks : List ℕ) → length (recount t q masks) ≡ length masks
 unfolding recount
-length-recount t q masks = length-map masks (carry t q)
+length-recount t q masks = length-map masks (remask t q)
 
 -- ---- the invariant after r rows, with rows wanted, masks, and rows held
 
@@ -67,20 +67,20 @@ going-start N n wanted fit wide less =
     }
 
 -- CNOTs into wire t, not a wire passed, keep it
-gather-keeps : {N n r : ℕ} {wanted masks held : List ℕ} → n ≤ N → Going N n r wanted masks held
-    → (t q : ℕ) → r ≤ t → t < n → q < 2 ^ n → bit q t ≡ 0 → Going N n r wanted (recount t q masks) (gather t q held)
-gather-keeps {N} {n} {r} {wanted} {masks} {held} fit h t q lo hi less off =
+into-keeps : {N n r : ℕ} {wanted masks held : List ℕ} → n ≤ N → Going N n r wanted masks held
+    → (t q : ℕ) → r ≤ t → t < n → q < 2 ^ n → bit q t ≡ 0 → Going N n r wanted (recount t q masks) (xorInto t q held)
+into-keeps {N} {n} {r} {wanted} {masks} {held} fit h t q lo hi less off =
     record {
       wide = length-recount t q masks ∙ h .wide;
       tall = length-set held t v ∙ h .tall;
-      makes = λ i l. ap (λ (m : ℕ). combine m (gather t q held)) (recount-at t q i masks)
-          ∙ combine-gather (carry t q (getD masks i 0)) t q held low
-          ∙ ap (λ (m : ℕ). combine m held) (carry-twice t q off (getD masks i 0)) ∙ h .makes i l;
-      small = λ i l. rw (recount-at t q i masks) (carry-lt n t q (getD masks i 0) less (h .small i l));
-      past = λ j l. recount-at t q j masks ∙ ap (carry t q) (h .past j l) ∙ unmoved j (omega arith);
+      makes = λ i l. ap (λ (m : ℕ). combine m (xorInto t q held)) (recount-at t q i masks)
+          ∙ combine-into (remask t q (getD masks i 0)) t q held low
+          ∙ ap (λ (m : ℕ). combine m held) (remask-twice t q off (getD masks i 0)) ∙ h .makes i l;
+      small = λ i l. rw (recount-at t q i masks) (remask-lt n t q (getD masks i 0) less (h .small i l));
+      past = λ j l. recount-at t q j masks ∙ ap (remask t q) (h .past j l) ∙ unmoved j (omega arith);
       beyond = λ i l. getD-set-other held t i v 0 (omega arith) ∙ h .beyond i l;
-      free = λ s ne l e. h .free (carry t q s) (carry-nonzero t q off s ne) (carry-lt n t q s less l)
-          (sym (combine-gather s t q held low) ∙ e);
+      free = λ s ne l e. h .free (remask t q s) (remask-nonzero t q off s ne) (remask-lt n t q s less l)
+          (sym (combine-into s t q held low) ∙ e);
     }
   where
     v : ℕ
@@ -89,7 +89,7 @@ gather-keeps {N} {n} {r} {wanted} {masks} {held} fit h t q lo hi less off =
     low : t < length held
     low = omega (arith, h .tall)
 
-    unmoved : (j : ℕ) → j ≢ t → carry t q (2 ^ j) ≡ 2 ^ j
+    unmoved : (j : ℕ) → j ≢ t → remask t q (2 ^ j) ≡ 2 ^ j
     unmoved j ne = rw (bit-pow-other j t ne, zero-mul q) (xor-zero-r (2 ^ j))
 
 -- ---- one row: the two masks of CNOTs, for a mask m with pivot b
@@ -131,7 +131,7 @@ module _ {n r m b : ℕ} (p : Names n r m b) (less : m < 2 ^ n) where
   lack-less = scale-lt (1 - bit m r) (2 ^ r) (2 ^ n) (omega arith) wire
 
   full : ℕ
-  full = carry b (lack r m) m
+  full = remask b (lack r m) m
 
   full-is : full ≡ bitXor m (lack r m)
   unfolding full
@@ -146,7 +146,7 @@ module _ {n r m b : ℕ} (p : Names n r m b) (less : m < 2 ^ n) where
 
   full-less : full < 2 ^ n
   unfolding full
-  full-less = carry-lt n b (lack r m) m lack-less less
+  full-less = remask-lt n b (lack r m) m lack-less less
 
   surplus-off : bit (bitXor full (2 ^ r)) r ≡ 0
   surplus-off = flip-same full r ∙ ap (λ (c : ℕ). (c + 1) % 2) full-on
@@ -155,7 +155,7 @@ module _ {n r m b : ℕ} (p : Names n r m b) (less : m < 2 ^ n) where
   surplus-less = xor-lt n full (2 ^ r) full-less wire
 
   -- the mask ends as 2 ^ r
-  mask-ends : carry r (bitXor full (2 ^ r)) full ≡ 2 ^ r
+  mask-ends : remask r (bitXor full (2 ^ r)) full ≡ 2 ^ r
   mask-ends =
       rw (full-on, one-mul (bitXor full (2 ^ r)))
       (sym (xor-assoc full full (2 ^ r)) ∙ ap (λ (x : ℕ). bitXor x (2 ^ r)) (xor-self full))
@@ -164,10 +164,10 @@ module _ {n r m b : ℕ} (p : Names n r m b) (less : m < 2 ^ n) where
 
 -- the rows held between the CNOTs of row r, with pivot b, and after them
 abbrev between : ℕ → ℕ → List ℕ → List ℕ → List ℕ
-between r b masks held = gather b (lack r (getD masks r 0)) held
+between r b masks held = xorInto b (lack r (getD masks r 0)) held
 
 abbrev pub heldAfter : ℕ → ℕ → List ℕ → List ℕ → List ℕ
-heldAfter r b masks held = gather r (surplus r b masks) (between r b masks held)
+heldAfter r b masks held = xorInto r (surplus r b masks) (between r b masks held)
 
 module _ {N n r b : ℕ} {wanted masks held : List ℕ} (fit : n ≤ N) (h : Going N n r wanted masks held)
     (p : Names n r (getD masks r 0) b) where
@@ -198,7 +198,7 @@ module _ {N n r b : ℕ} {wanted masks held : List ℕ} (fit : n ≤ N) (h : Goi
   less₂ = rw full-at (surplus-less p less)
 
   half : Going N n r wanted (filled r b masks) (between r b masks held)
-  half = gather-keeps fit h b (lack r m) (p .from) (p .inside) less₁ off₁
+  half = into-keeps fit h b (lack r m) (p .from) (p .inside) less₁ off₁
 
   pub row-keeps : Going N n (suc r) wanted (nextMasks r b masks) (heldAfter r b masks held)
   row-keeps =
@@ -213,7 +213,7 @@ module _ {N n r b : ℕ} {wanted masks held : List ℕ} (fit : n ≤ N) (h : Goi
       }
     where
       g : Going N n r wanted (nextMasks r b masks) (heldAfter r b masks held)
-      g = gather-keeps fit half r (surplus r b masks) (le-refl r) inside less₂ off₂
+      g = into-keeps fit half r (surplus r b masks) (le-refl r) inside less₂ off₂
 
       last : getD (nextMasks r b masks) r 0 ≡ 2 ^ r
       last = recount-at r (surplus r b masks) r (filled r b masks) ∙ rw full-at (mask-ends p less)
@@ -229,7 +229,7 @@ module _ {N n r b : ℕ} {wanted masks held : List ℕ} (fit : n ≤ N) (h : Goi
       read-append (cnots n (lack r m) b) (cnots n (surplus r b masks) r) s
       ∙ ap (readFrom (cnots n (surplus r b masks) r))
       (read-cnots b s (rw e (omega (arith, h .tall, p .inside))) n (lack r m) less₁ off₁
-      ∙ ap (λ (rows : List ℕ). withRows (gather b (lack r m) rows) s) e)
+      ∙ ap (λ (rows : List ℕ). withRows (xorInto b (lack r m) rows) s) e)
       ∙ read-cnots r s₁ (omega (arith, half .tall, inside)) n (surplus r b masks) less₂ off₂
 
   pub row-formed : AllWellFormed n (rowGates n r b masks)

@@ -14,7 +14,7 @@ use Rattle.circuit.proofs.Sound.{combine-first-rows, first-row, length-first, r
 use Rattle.circuit.specs.Faults.{AllWellFormed}
 use Rattle.circuit.specs.Read.{Reading, firstRows, readFrom, row, withRows, withWeights}
 use Rattle.gf2.proofs.BitCounts.{flip-other, flip-same}
-use Rattle.gf2.proofs.Gather.{gather, gather-twice}
+use Rattle.gf2.proofs.XorInto.{xorInto, into-twice}
 use Rattle.gf2.proofs.Leading.{bit-inside, bit-lowest}
 use Rattle.gf2.proofs.Sum.{sum-update}
 use Rattle.gf2.proofs.Xor.{xor-cancel}
@@ -38,7 +38,7 @@ record Brought (n q t p : ℕ) (r : Reading) : Type 0 where
 module _ {n q t p : ℕ} {r : Reading} (b : Brought n q t p r) where
   -- the reading between the CNOTs
   held : Reading
-  held = withRows (gather t q (r .rows)) r
+  held = withRows (xorInto t q (r .rows)) r
 
   at : row held t ≡ p
   unfolding held
@@ -56,7 +56,7 @@ module _ {n q t p : ℕ} {r : Reading} (b : Brought n q t p r) where
   unfolding held added
   undone v =
       read-cnots t (added v held) (rw (length-set (r .rows) t (bitXor (row r t) (combine q (r .rows)))) (b .low)) n q (b .less) (b .off)
-      ∙ ap (λ (rows : List ℕ). withRows rows (added v held)) (gather-twice t q (b .off) (r .rows) (b .low))
+      ∙ ap (λ (rows : List ℕ). withRows rows (added v held)) (into-twice t q (b .off) (r .rows) (b .low))
 
   read-around : (v : ℕ) → v < 7 → p < length (r .weights) → readFrom (around n q t (suc v)) r ≡ added (suc v) r
   unfolding around held added

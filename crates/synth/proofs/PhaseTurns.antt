@@ -1,7 +1,7 @@
 -- Writing the weights: one turn, and the end, of each loop of the code, and each way out of a match, over plain numbers and lists.
-use mathlib.Core.List.{_++_, List}
+use mathlib.Core.List.{_++_, List, [], _∷_, map}
 use mathlib.Core.Logic.{_≢_}
-use mathlib.Core.Path.{_∙_, _≡_, ap, refl, subst}
+use mathlib.Core.Path.{_∙_, _≡_, ap, refl, subst, sym}
 use Prim.Native.Nat.{_%_, _+_, _/_, _<_, _^_, suc, zero, ℕ, _≤_}
 use native.Mathlib.Decide.{ℕ-discrete}
 use native.Mathlib.Nat.{le-refl}
@@ -11,15 +11,18 @@ use lib.Bits.{bitXor}
 use lib.Dec.{eqb}
 use lib.ListN.{length, length-append}
 use lib.Pow.{pow-mono}
-use Rattle.circuit.specs.Gate.{Gate}
+use Rattle.circuit.specs.Gate.{Gate, gate}
 use Rattle.circuit.specs.Limits.{maxWires, parities}
 use Rattle.circuit.specs.Sound.{weight}
 use Rattle.gf2.specs.Bit.{bit}
 use Rattle.synth.proofs.AllParities.{phases-grow}
 use Rattle.synth.proofs.BitTests.{bit-told}
 use Rattle.synth.proofs.Stores.{room-first, room-then, stored-none, stored-then}
-use Rattle.synth.specs.Storing.{ParityReady, PhasesReady, Room, Stored}
+use Rattle.synth.specs.Spelling.{spelling}
+use Rattle.synth.specs.Storing.{ParityReady, PhasesReady, Room, Stored, kindsOf}
 use Rattle.synth.specs.Writing.{around, bitOf, cnotIf, cnots, lowest, others, spell, writeParity, writePhases}
+use Rattle.synth.specs.declared.spelling.Kinds.{Kinds}
+use Rattle.synth.specs.declared.spelling.Kinds.the-variants.{Nothing, One, Two}
 
 -- ---- a CNOT from each wire of a mask
 
@@ -68,6 +71,21 @@ no-weight-left (suc (suc (suc (suc (suc zero))))) l a b c d e f g = absurd (e re
 no-weight-left (suc (suc (suc (suc (suc (suc zero)))))) l a b c d e f g = absurd (f refl)
 no-weight-left (suc (suc (suc (suc (suc (suc (suc zero))))))) l a b c d e f g = absurd (g refl)
 no-weight-left (suc (suc (suc (suc (suc (suc (suc (suc v)))))))) l a b c d e f g = absurd (omega arith)
+
+-- the gates that spell a weight, by the kinds that the code has found for it
+module _ (v t : ℕ) (r : Kinds) (is : kindsOf r ≡ spelling v) where
+  on-wire : (x : Kinds) → r ≡ x → spell v t ≡ map (λ kind. gate kind t 0) (kindsOf x)
+  unfolding spell
+  on-wire x e = ap (map (λ kind. gate kind t 0)) (sym is ∙ ap kindsOf e)
+
+  pub spell-none : r ≡ Nothing → spell v t ≡ []
+  spell-none e = on-wire Nothing e
+
+  pub spell-one : (kind : ℕ) → r ≡ One kind → spell v t ≡ gate kind t 0 ∷ []
+  spell-one kind e = on-wire (One kind) e
+
+  pub spell-two : (first second : ℕ) → r ≡ Two first second → spell v t ≡ gate first t 0 ∷ gate second t 0 ∷ []
+  spell-two first second e = on-wire (Two first second) e
 
 -- ---- one parity
 

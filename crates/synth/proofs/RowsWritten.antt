@@ -17,7 +17,7 @@ use Rattle.circuit.specs.Gate.{Gate}
 use Rattle.circuit.specs.Read.{Reading, firstRows, readFrom, withRows}
 use Rattle.circuit.specs.Sound.{SoundRows}
 use Rattle.gf2.proofs.BitCounts.{bits-below}
-use Rattle.gf2.proofs.Gather.{combine-agree}
+use Rattle.gf2.proofs.XorInto.{combine-agree}
 use Rattle.gf2.proofs.Selection.{combine-one, combine-xor}
 use Rattle.gf2.proofs.Xor.{xor-cancel}
 use Rattle.gf2.specs.Bit.{bit}

@@ -1,75 +1,136 @@
 -- The spelling of a weight: phase gates alone, at most two, that add the weight at the parity their wire holds. One of them is T or T
--- dagger where the weight is odd, none where it is even.
-use mathlib.Core.Bool.{Bool, false, true}
+-- dagger where the weight is odd, none where it is even. That is one test, computed at each weight; nothing else looks at a spelling.
+use mathlib.Core.Bool.{Bool, _&&_, false, true}
 use mathlib.Core.List.{List, [], map, _∷_}
 use mathlib.Core.Logic.{_≢_}
-use mathlib.Core.Path.{ap, refl, _∙_, _≡_}
-use Prim.Native.Nat.{_%_, _+_, _<_, suc, zero, ℕ, _≤_}
+use mathlib.Core.Path.{ap, refl, sym, _∙_, _≡_}
+use Prim.Native.Nat.{_%_, _+_, _<_, suc, ℕ, _≤_}
+use native.Mathlib.Nat.{add-zero}
 use native.Mathlib.Omega.{arith}
-use lib.Dec.{eqb}
-use lib.ListN.{getD, length, set}
+use lib.Dec.{T as Holds, eqb, eqb→eq, leb, leb→le}
+use lib.ListN.{getD, length, length-map, length-set, set}
 use lib.Seq.{getD-set-same, set-set}
 use borrow.Author.Tests.{eq-eqb, ne-eqb}
+use Rattle.circuit.proofs.GateKinds.{turnOf}
 use Rattle.circuit.specs.Faults.{AllWellFormed}
 use Rattle.circuit.specs.Gate.{T, T-dagger, gate, kindOf}
 use Rattle.circuit.specs.Read.{Reading, readFrom, readKind, row, withWeights}
+use Rattle.gf2.proofs.Brute.{T-both}
+use Rattle.gf2.proofs.Every.{every-at}
+use Rattle.gf2.specs.Every.{every}
 use Rattle.gf2.specs.Sum.{delta}
 use Rattle.gf2.specs.Table.{addAt}
 use Rattle.synth.specs.Spelling.{kindsAt, occurs, spelling}
 use Rattle.synth.specs.Writing.{spell}
-use Rattle.circuit.specs.declared.gates.Kind.the-variants.{Phase}
+use Rattle.circuit.specs.declared.gates.Kind.{Kind}
+use Rattle.circuit.specs.declared.gates.Kind.the-variants.{Cnot, Phase, Unknown}
+
+-- ---- the rule of a weight's spelling
 
 -- all of these are kinds of phase gates
 abbrev Phases : List ℕ → Type 0
 Phases [] = Unit {0}
 Phases (k ∷ ks) = ((v : ℕ) × (kindOf k ≡ Phase v)) × Phases ks
 
-spelling-phases : (v : ℕ) → v < 8 → Phases (spelling v)
-unfolding spelling kindOf
-spelling-phases zero l = tt
-spelling-phases (suc zero) l = ((1, refl), tt)
-spelling-phases (suc (suc zero)) l = ((2, refl), tt)
-spelling-phases (suc (suc (suc zero))) l = ((2, refl), ((1, refl), tt))
-spelling-phases (suc (suc (suc (suc zero)))) l = ((4, refl), tt)
-spelling-phases (suc (suc (suc (suc (suc zero))))) l = ((4, refl), ((1, refl), tt))
-spelling-phases (suc (suc (suc (suc (suc (suc zero)))))) l = ((6, refl), tt)
-spelling-phases (suc (suc (suc (suc (suc (suc (suc zero))))))) l = ((7, refl), tt)
-spelling-phases (suc (suc (suc (suc (suc (suc (suc (suc v)))))))) l = absurd (omega arith)
+-- what they add together
+unfoldable pub turns : List ℕ → ℕ
+turns [] = 0
+turns (k ∷ ks) = turnOf (kindOf k) + turns ks
+
+pub record Right (v : ℕ) : Type 0 where
+  pub phases : Phases (spelling v)
+  pub few : length (spelling v) ≤ 2
+  pub adds : turns (spelling v) % 8 ≡ v
+  pub t-if-odd : occurs T (spelling v) + occurs T-dagger (spelling v) ≡ v % 2
+
+-- ---- the same as a test
+
+abbrev isPhase : Kind → Bool
+isPhase (Phase v) = true
+isPhase Cnot = false
+isPhase Unknown = false
+
+abbrev arePhases : List ℕ → Bool
+arePhases [] = true
+arePhases (k ∷ ks) = isPhase (kindOf k) && arePhases ks
+
+phases-told : (ks : List ℕ) → Holds (arePhases ks) → Phases ks
+phases-told [] t = tt
+phases-told (k ∷ ks) t = let h = T-both (isPhase (kindOf k)) (arePhases ks) .0 t in (told (kindOf k) (h .0), phases-told ks (h .1))
+  where
+    told : (x : Kind) → Holds (isPhase x) → (v : ℕ) × (x ≡ Phase v)
+    told (Phase v) t = (v, refl)
+    told Cnot t = absurd t
+    told Unknown t = absurd t
+
+unfoldable counted : ℕ → Bool
+counted v =
+    leb (length (spelling v)) 2
+    && (eqb (turns (spelling v) % 8) v && eqb (occurs T (spelling v) + occurs T-dagger (spelling v)) (v % 2))
+
+unfoldable isRight : ℕ → Bool
+isRight v = arePhases (spelling v) && counted v
+
+computed : Holds (every 8 isRight)
+unfolding every isRight counted turns spelling occurs delta kindOf
+computed = tt
+
+pub right : (v : ℕ) → v < 8 → Right v
+unfolding isRight counted
+right v l =
+    let ts : ℕ = occurs T (spelling v) + occurs T-dagger (spelling v) in
+    let a = T-both (arePhases (spelling v)) (counted v) .0 (every-at 8 isRight computed v l) in
+    let b = T-both (leb (length (spelling v)) 2) (eqb (turns (spelling v) % 8) v && eqb ts (v % 2)) .0 (a .1) in
+    let d = T-both (eqb (turns (spelling v) % 8) v) (eqb ts (v % 2)) .0 (b .1) in
+    record {
+      phases = phases-told (spelling v) (a .0);
+      few = leb→le (length (spelling v)) 2 (b .0);
+      adds = eqb→eq (turns (spelling v) % 8) v (d .0);
+      t-if-odd = eqb→eq ts (v % 2) (d .1);
+    }
 
 -- ---- reading
 
-addAt-twice : (w : List ℕ) (q x y z : ℕ) → q < length w → x + y ≡ z → addAt 8 (addAt 8 w q x) q y ≡ addAt 8 w q z
-addAt-twice w q x y z h e =
+addAt-twice : (w : List ℕ) (q x y : ℕ) → q < length w → addAt 8 (addAt 8 w q x) q y ≡ addAt 8 w q (x + y)
+addAt-twice w q x y h =
     let u : ℕ = (getD w q 0 + x) % 8 in
     set-set w q u ((getD (set w q u) q 0 + y) % 8)
     ∙ ap (λ (c : ℕ). set w q ((c + y) % 8)) (getD-set-same w q u 0 h) ∙ ap (set w q) (omega arith)
 
+-- phase gates on one wire add together at the parity that it holds
+read-kinds : (t k : ℕ) (ks : List ℕ) → Phases (k ∷ ks) → (r : Reading) → row r t < length (r .weights)
+    → readFrom (map (λ kind. gate kind t 0) (k ∷ ks)) r ≡ withWeights (addAt 8 (r .weights) (row r t) (turns (k ∷ ks))) r
+unfolding readFrom readKind turns
+read-kinds t k [] f r h = rw (f .0 .1, add-zero (f .0 .0))
+read-kinds t k (j ∷ ks) f r h =
+    let v : ℕ = f .0 .0 in
+    let w : List ℕ = addAt 8 (r .weights) (row r t) v in
+    ap (λ (x : Kind). readFrom (map (λ kind. gate kind t 0) (j ∷ ks)) (readKind x t 0 r)) (f .0 .1)
+    ∙ read-kinds t j ks (f .1) (withWeights w r) (rw (length-set (r .weights) (row r t) ((getD (r .weights) (row r t) 0 + v) % 8)) h)
+    ∙ ap (λ (x : List ℕ). withWeights x r) (addAt-twice (r .weights) (row r t) v (turns (j ∷ ks)) h)
+    ∙ ap (λ (x : Kind). withWeights (addAt 8 (r .weights) (row r t) (turnOf x + turns (j ∷ ks))) r) (sym (f .0 .1))
+
 -- spelled gates on wire t add v at the parity that t holds
 pub read-spell : (v t : ℕ) (r : Reading) → v < 7 → row r t < length (r .weights)
     → readFrom (spell (suc v) t) r ≡ withWeights (addAt 8 (r .weights) (row r t) (suc v)) r
-unfolding spell spelling readFrom readKind kindOf
-read-spell zero t r l h = refl
-read-spell (suc zero) t r l h = refl
-read-spell (suc (suc zero)) t r l h = ap (λ (w : List ℕ). withWeights w r) (addAt-twice (r .weights) (row r t) 2 1 3 h refl)
-read-spell (suc (suc (suc zero))) t r l h = refl
-read-spell (suc (suc (suc (suc zero)))) t r l h = ap (λ (w : List ℕ). withWeights w r) (addAt-twice (r .weights) (row r t) 4 1 5 h refl)
-read-spell (suc (suc (suc (suc (suc zero))))) t r l h = refl
-read-spell (suc (suc (suc (suc (suc (suc zero)))))) t r l h = refl
-read-spell (suc (suc (suc (suc (suc (suc (suc v))))))) t r l h = absurd (omega arith)
+unfolding spell turns
+read-spell v t r l h = go (spelling (suc v)) (right (suc v) (omega arith) .phases) (right (suc v) (omega arith) .adds)
+  where
+    go : (ks : List ℕ) → Phases ks → turns ks % 8 ≡ suc v
+        → readFrom (map (λ kind. gate kind t 0) ks) r ≡ withWeights (addAt 8 (r .weights) (row r t) (suc v)) r
+    go [] f e = absurd (omega arith)
+    go (k ∷ ks) f e =
+        read-kinds t k ks f r h
+        ∙ ap (λ (x : ℕ). withWeights (set (r .weights) (row r t) x) r) (same (getD (r .weights) (row r t) 0) (turns (k ∷ ks)) e)
+      where
+        same : (a x : ℕ) → x % 8 ≡ suc v → (a + x) % 8 ≡ (a + suc v) % 8
+        same a x e = omega arith
 
 -- ---- how many, and well formed
 
 pub length-spell : (v t : ℕ) → v < 8 → length (spell v t) ≤ 2
-unfolding spell spelling
-length-spell zero t l = omega arith
-length-spell (suc zero) t l = omega arith
-length-spell (suc (suc zero)) t l = omega arith
-length-spell (suc (suc (suc zero))) t l = omega arith
-length-spell (suc (suc (suc (suc zero)))) t l = omega arith
-length-spell (suc (suc (suc (suc (suc zero))))) t l = omega arith
-length-spell (suc (suc (suc (suc (suc (suc zero)))))) t l = omega arith
-length-spell (suc (suc (suc (suc (suc (suc (suc zero))))))) t l = omega arith
-length-spell (suc (suc (suc (suc (suc (suc (suc (suc v)))))))) t l = absurd (omega arith)
+unfolding spell
+length-spell v t l = rw (length-map (spelling v) (λ kind. gate kind t 0)) (right v l .few)
 
 formed-kinds : (n t : ℕ) → t < n → (ks : List ℕ) → Phases ks → AllWellFormed n (map (λ kind. gate kind t 0) ks)
 formed-kinds n t h [] f = tt
@@ -77,7 +138,7 @@ formed-kinds n t h (k ∷ ks) f = (rw (f .0 .1) (h, refl), formed-kinds n t h ks
 
 pub formed-spell : (n v t : ℕ) → v < 8 → t < n → AllWellFormed n (spell v t)
 unfolding spell
-formed-spell n v t l h = formed-kinds n t h (spelling v) (spelling-phases v l)
+formed-spell n v t l h = formed-kinds n t h (spelling v) (right v l .phases)
 
 -- ---- the kinds at a parity
 
@@ -100,23 +161,14 @@ module _ (p v t : ℕ) (small : v < 8) (r : Reading) where
   -- the spelling, at the parity that the wire holds
   pub kinds-here : row r t ≡ p → kindsAt p (spell v t) r ≡ spelling v
   unfolding spell
-  kinds-here e = kinds-on p t true (spelling v) (spelling-phases v small) r (eq-eqb (row r t) p e)
+  kinds-here e = kinds-on p t true (spelling v) (right v small .phases) r (eq-eqb (row r t) p e)
 
   -- nothing, at another
   pub kinds-away : row r t ≢ p → kindsAt p (spell v t) r ≡ []
   unfolding spell
-  kinds-away e = kinds-on p t false (spelling v) (spelling-phases v small) r (ne-eqb (row r t) p e)
+  kinds-away e = kinds-on p t false (spelling v) (right v small .phases) r (ne-eqb (row r t) p e)
 
 -- ---- T and T dagger
 
 pub occurs-odd : (v : ℕ) → v < 8 → occurs T (spelling v) + occurs T-dagger (spelling v) ≡ v % 2
-unfolding spelling occurs delta
-occurs-odd zero l = refl
-occurs-odd (suc zero) l = refl
-occurs-odd (suc (suc zero)) l = refl
-occurs-odd (suc (suc (suc zero))) l = refl
-occurs-odd (suc (suc (suc (suc zero)))) l = refl
-occurs-odd (suc (suc (suc (suc (suc zero))))) l = refl
-occurs-odd (suc (suc (suc (suc (suc (suc zero)))))) l = refl
-occurs-odd (suc (suc (suc (suc (suc (suc (suc zero))))))) l = refl
-occurs-odd (suc (suc (suc (suc (suc (suc (suc (suc v)))))))) l = absurd (omega arith)
+occurs-odd v l = right v l .t-if-odd

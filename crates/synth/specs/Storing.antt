@@ -1,5 +1,5 @@
 -- Gates stored in lent bytes, one after the other: what the functions behind the entry require and promise.
-use mathlib.Core.List.{List}
+use mathlib.Core.List.{List, [], _∷_}
 use mathlib.Core.Path.{_≡_}
 use Prim.Native.Nat.{_*_, _+_, _<_, _^_, _≤_, ℕ}
 use lib.ListN.{getD, length}
@@ -9,6 +9,8 @@ use Rattle.circuit.specs.Limits.{gateBytes, maxWires, parities}
 use Rattle.circuit.specs.Sound.{SoundRows, SoundWeights}
 use Rattle.synth.specs.Writing.{lack, nextMasks, surplus, writeParity, writePhases, writeRows}
 use Rattle.synth.specs.declared.masks.Step.{Step}
+use Rattle.synth.specs.declared.spelling.Kinds.{Kinds}
+use Rattle.synth.specs.declared.spelling.Kinds.the-variants.{Nothing, One, Two}
 
 -- bytes g have room for these gates after k others
 abbrev pub Room : List ℕ → ℕ → List Gate → Type 0
@@ -20,6 +22,12 @@ pub record Stored (g g′ : List ℕ) (k k′ : ℕ) (new : List Gate) : Type 0 
   pub bytes : g′ ≡ sets g (gateBytes * k) (bytesOf new)
 
 -- ---- the weights
+
+-- the code's kinds of gates, in order
+abbrev pub kindsOf : Kinds → List ℕ
+kindsOf Nothing = []
+kindsOf (One kind) = kind ∷ []
+kindsOf (Two first second) = first ∷ second ∷ []
 
 -- bytes g have room for weight v at parity p, after k gates
 pub record ParityReady (g : List ℕ) (k n p v : ℕ) : Type 0 where

@@ -1,8 +1,10 @@
 // How a weight is spelled (document 01, "The new weights"). Internal: the caller has found no fault.
 ghost use mathlib.Core.List.{[], _∷_};
+ghost use mathlib.Core.Path.{_≡_};
 ghost use Prim.Native.Nat.{_<_};
 ghost use Rattle.circuit.specs.Gate.{gate};
-ghost use Rattle.synth.specs.Storing.{Room, Stored};
+ghost use Rattle.synth.specs.Spelling.{spelling};
+ghost use Rattle.synth.specs.Storing.{Room, Stored, kindsOf};
 ghost use Rattle.synth.specs.Writing.{spell};
 use crate::storing::push;
 use circuit::gates::S;
@@ -12,20 +14,39 @@ use circuit::gates::T_DAGGER;
 use circuit::gates::Z;
 use circuit::limits::Weight;
 
-// Weight 1 to 7 as T; S; S T; Z; Z T; S dagger; T dagger, on wire t.
+// The kinds of the gates that spell a weight, in order.
+pub enum Kinds {
+    Nothing,
+    One(u8),
+    Two(u8, u8),
+}
+
+// Weight v on wire t.
 pub fn spell_out(gates: &mut [u8], k: usize, v: Weight, t: u8) -> usize
     requires { ⌜ (v < 8) × Room (now gates) k (spell v t) ⌝ }
     ensures { λ r. ⌜ Stored (now (gates .entry)) (now (gates .exit)) k r (spell v t) ⌝ }
 {
+    match kinds_for(v) {
+        Kinds::Nothing => k,
+        Kinds::One(kind) => push(gates, k, kind, t, 0),
+        Kinds::Two(first, second) => push_two(gates, k, first, second, t),
+    }
+}
+
+// Weight 1 to 7 as T; S; S T; Z; Z T; S dagger; T dagger.
+fn kinds_for(v: Weight) -> Kinds
+    requires { ⌜ v < 8 ⌝ }
+    ensures { λ r. ⌜ kindsOf r ≡ spelling v ⌝ }
+{
     match v {
-        1 => push(gates, k, T, t, 0),
-        2 => push(gates, k, S, t, 0),
-        3 => push_two(gates, k, S, T, t),
-        4 => push(gates, k, Z, t, 0),
-        5 => push_two(gates, k, Z, T, t),
-        6 => push(gates, k, S_DAGGER, t, 0),
-        7 => push(gates, k, T_DAGGER, t, 0),
-        _ => k,
+        1 => Kinds::One(T),
+        2 => Kinds::One(S),
+        3 => Kinds::Two(S, T),
+        4 => Kinds::One(Z),
+        5 => Kinds::Two(Z, T),
+        6 => Kinds::One(S_DAGGER),
+        7 => Kinds::One(T_DAGGER),
+        _ => Kinds::Nothing,
     }
 }
 

@@ -16,17 +16,17 @@ use Rattle.text.proofs.LineForms.{and-both, first-formed, starts}
 use Rattle.text.proofs.TextFaults.{count-done, done-few, done-formed, done-next, faultFrom, gates-done, one-formed-done}
 use Rattle.text.proofs.TextFaults.{read-circuit, read-faulty}
 use Rattle.text.specs.Hex.{hex2, isDigit, newline}
-use Rattle.text.specs.Limits.{gateDigits, gateLineBytes, wiresDigits, wiresLineBytes}
+use Rattle.text.specs.Limits.{byteValues, gateDigits, gateLineBytes, wiresDigits, wiresLineBytes}
 use Rattle.text.specs.Lines.{byteAt, linesDecoded, linesOf, pair}
 use Rattle.text.specs.Text.{Sayable, circuit, faulty, linesFault, readText}
 use Rattle.text.specs.Written.{gateLine, gateLines, textOf, wiresLine}
-use Rattle.text.proofs.WrittenReads.{AllBytes, hex-pair, line-decoded, pair-hex}
+use Rattle.text.proofs.WrittenReads.{AllBytes, AreBytes, hex-pair, line-decoded, pair-hex}
 
 -- the digits of a byte taken off the front
 record Peeled (k : ℕ) (t : List ℕ) : Type 0 where
   value : ℕ
   rest : List ℕ
-  small : value < 256
+  small : value < byteValues
   is : t ≡ hex2 value ++ rest
   more : starts k rest ≡ true
 
@@ -55,7 +55,7 @@ end (b ∷ t) e = (t, ap (λ (x : ℕ). x ∷ t) (eqb-true b newline e))
 pub record WiresFirst (t : List ℕ) : Type 0 where
   pub n : ℕ
   pub rest : List ℕ
-  pub small : n < 256
+  pub small : n < byteValues
   pub is : t ≡ wiresLine n ++ rest
 
 pub record GateFirst (t : List ℕ) : Type 0 where
@@ -63,7 +63,7 @@ pub record GateFirst (t : List ℕ) : Type 0 where
   pub a : ℕ
   pub b : ℕ
   pub rest : List ℕ
-  pub small : (kind < 256) × (a < 256) × (b < 256)
+  pub small : AreBytes kind a b
   pub is : t ≡ gateLine (gate kind a b) ++ rest
 
 wires-first : (t : List ℕ) → starts wiresDigits t ≡ true → WiresFirst t
@@ -96,7 +96,7 @@ record Decodes (r : ℕ) (t bytes : List ℕ) : Type 0 where
   short : length bytes ≤ gateBytes * r
   byte : AllBytes bytes
 
-pub bytes-more : (kind a b : ℕ) (bytes : List ℕ) → (kind < 256) × (a < 256) × (b < 256) → AllBytes bytes → AllBytes (kind ∷ a ∷ b ∷ bytes)
+pub bytes-more : (kind a b : ℕ) (bytes : List ℕ) → AreBytes kind a b → AllBytes bytes → AllBytes (kind ∷ a ∷ b ∷ bytes)
 bytes-more kind a b bytes h f zero = h .0
 bytes-more kind a b bytes h f (suc zero) = h .1
 bytes-more kind a b bytes h f (suc (suc zero)) = h .2

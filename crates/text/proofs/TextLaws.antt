@@ -5,14 +5,15 @@ use mathlib.Core.Logic.{_⊎_, inl, inr}
 use mathlib.Core.Path.{_∙_, _≡_, ap, ap₂, refl, sym}
 use Prim.Native.Nat.{_%_, _*_, _+_, _/_, _<_, _≤_, ℕ}
 use native.Mathlib.Decide.{decLt}
-use native.Mathlib.Nat.{zero-add}
 use native.Mathlib.Omega.{arith}
 use lib.Dec.{ltb}
 use lib.ListN.{drop, length, length-append, take}
-use lib.Seq.{drop-append-seam, take-append-seam}
+use lib.Seq.{take-append-seam}
 use borrow.Author.Tests.{eq-eqb, le-ltb, lt-leb, lt-ltb, ne-eqb}
+use Rattle.circuit.proofs.Placing.{placed-kept}
 use Rattle.circuit.specs.Faults.{lentOutput, listLength, malformed, wireCount, wiresFault}
 use Rattle.circuit.specs.Gate.{Gate, gate, gatesOf}
+use Rattle.circuit.specs.Lent.{KeptFrom}
 use Rattle.circuit.specs.Limits.{gateBytes, maxGates, maxListBytes, maxWires, maxWrittenGates}
 use Rattle.circuit.specs.declared.Reply.{Reply}
 use Rattle.circuit.specs.declared.Reply.the-variants.{Done as Judged, Refused as Found}
@@ -25,7 +26,7 @@ use Rattle.text.proofs.WrittenReads.{circuit-pass, length-gates, pair-h
 use Rattle.text.specs.Entry.{ReadText, gatesAfter, readInto, replyOf}
 use Rattle.text.specs.Hex.{hex2, hex4}
 use Rattle.text.specs.Limits.{countsLineBytes, gateDigits, gateLineBytes, refusedLineBytes, replyBytes, textBytes}
-use Rattle.text.specs.Limits.{wiresDigits, wiresLineBytes}
+use Rattle.text.specs.Limits.{byteValues, wiresDigits, wiresLineBytes}
 use Rattle.text.specs.Lines.{decoded, firstFormed, linesOf}
 use Rattle.text.specs.Text.{Sayable, Text, circuit, faulty, linesFault, readText}
 use Rattle.text.specs.Written.{countsLine, gateLine, gateLines, refusedLine, textOf, wiresLine}
@@ -53,7 +54,7 @@ pub line-one-malformed : (t : List ℕ) → firstFormed wiresDigits (linesOf t) 
 line-one-malformed t e = read-faulty t malformed 1 (one-wrong t e)
 
 -- then the count, whatever comes after line one
-pub count-wrong : (n : ℕ) (rest : List ℕ) → n < 256 → (n ≡ 0) ⊎ (maxWires < n) → readText (wiresLine n ++ rest) ≡ faulty wireCount 0
+pub count-wrong : (n : ℕ) (rest : List ℕ) → n < byteValues → (n ≡ 0) ⊎ (maxWires < n) → readText (wiresLine n ++ rest) ≡ faulty wireCount 0
 count-wrong n rest h w =
     let e = sym (first-formed wiresDigits (wiresLine n ++ rest)) ∙ wires-starts n rest in
     read-faulty (wiresLine n ++ rest) wireCount 0
@@ -119,11 +120,11 @@ refusal-leaves t gates gates′ number place c = go (readInto (length gates) t) 
     go (circuit n bytes) e l = absurd (refused-read number place n (length bytes / gateBytes) e)
     go (faulty f p) e l = l
 
--- the circuit that was read: n wires, and the gates' bytes in the first 3·m of those lent, the rest being as it was
+-- the circuit that was read: n wires, and the bytes of m gates at the start of those lent
 pub record CircuitRead (t gates gates′ : List ℕ) (n m : ℕ) : Type 0 where
   pub says : readText t ≡ circuit n (take (gateBytes * m) gates′)
   pub sayable : Sayable n (take (gateBytes * m) gates′)
-  pub rest : drop (gateBytes * m) gates′ ≡ drop (gateBytes * m) gates
+  pub kept : KeptFrom (gateBytes * m) gates gates′
   pub few : m ≤ maxGates
   pub long : length (take (gateBytes * m) gates′) ≡ gateBytes * m
 
@@ -136,9 +137,10 @@ done-reads t gates gates′ n m c = go (decLt (length gates) maxListBytes)
     lent-said : length gates < maxListBytes → readInto (length gates) t ≡ faulty lentOutput 0
     lent-said h = simp (lt-ltb (length gates) maxListBytes h)
 
-    of-text : (x : Text) → readText t ≡ x → Done n m ≡ replyOf x → gates′ ≡ gatesAfter x gates → CircuitRead t gates gates′ n m
-    of-text (faulty f p) e r l = absurd (refused-read f p n m (sym r))
-    of-text (circuit k bytes) e r l =
+    of-text : maxListBytes ≤ length gates → (x : Text) → readText t ≡ x → Done n m ≡ replyOf x → gates′ ≡ gatesAfter x gates
+        → CircuitRead t gates gates′ n m
+    of-text h (faulty f p) e r l = absurd (refused-read f p n m (sym r))
+    of-text h (circuit k bytes) e r l =
         let s = reads-written t k bytes e .0 in
         let a : k ≡ n = cc in
         let b : m ≡ length bytes / gateBytes = cc in
@@ -147,7 +149,7 @@ done-reads t gates gates′ n m c = go (decLt (length gates) maxListBytes)
         record {
           says = e ∙ ap₂ circuit a (sym front);
           sayable = rw front (rw (← a) s);
-          rest = rw (d, l) (drop-append-seam bytes (drop (0 + length bytes) gates) ∙ rw (zero-add (length bytes)));
+          kept = rw (d, l) (placed-kept gates bytes (omega (arith, s .short)));
           few = omega (arith, s .short);
           long = ap length front ∙ sym d;
         }
@@ -155,19 +157,19 @@ done-reads t gates gates′ n m c = go (decLt (length gates) maxListBytes)
     go : Dec (length gates < maxListBytes) → CircuitRead t gates gates′ n m
     go (yes h) = absurd (refused-read lentOutput 0 n m (sym (c .reply ∙ ap replyOf (lent-said h))))
     go (no h) =
-        of-text (readText t) refl (c .reply ∙ ap replyOf (text-said (omega arith)))
+        of-text (omega arith) (readText t) refl (c .reply ∙ ap replyOf (text-said (omega arith)))
         (c .gates-left ∙ ap (λ (x : Text). gatesAfter x gates) (text-said (omega arith)))
 
 -- ---- the lines written
 
 -- two digits stand for a byte, and four for a number below 2^16, high byte first
-pub hex2-decoded : (v : ℕ) → v < 256 → decoded (hex2 v) ≡ v ∷ []
+pub hex2-decoded : (v : ℕ) → v < byteValues → decoded (hex2 v) ≡ v ∷ []
 unfolding decoded
 hex2-decoded v h = rw (pair-hex v h)
 
-pub hex4-decoded : (v : ℕ) → v < 256 * 256 → decoded (hex4 v) ≡ v / 256 ∷ v % 256 ∷ []
+pub hex4-decoded : (v : ℕ) → v < byteValues * byteValues → decoded (hex4 v) ≡ v / byteValues ∷ v % byteValues ∷ []
 unfolding decoded
-hex4-decoded v h = rw (pair-hex (v / 256) (omega arith), pair-low v)
+hex4-decoded v h = rw (pair-hex (v / byteValues) (omega arith), pair-low v)
 
 pub wires-line-long : (n : ℕ) → length (wiresLine n) ≡ wiresLineBytes
 wires-line-long n = refl

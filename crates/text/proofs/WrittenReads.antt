@@ -15,7 +15,7 @@ use Rattle.text.proofs.HexDigits.{digit-value, value-digit, value-lt}
 use Rattle.text.proofs.LineForms.{first-formed, first-line, starts}
 use Rattle.text.proofs.TextFaults.{by-count, read-circuit, right}
 use Rattle.text.specs.Hex.{digit, hex2, isDigit, newline, valueOf}
-use Rattle.text.specs.Limits.{gateDigits, wiresDigits}
+use Rattle.text.specs.Limits.{byteValues, gateDigits, wiresDigits}
 use Rattle.text.specs.Lines.{byteAt, decoded, ended, firstFormed, formed, linesDecoded, linesOf, pair}
 use Rattle.text.specs.Text.{Sayable, circuit, gatesFault, linesFault, readText}
 use Rattle.text.specs.Written.{gateLine, gateLines, textOf, wiresLine}
@@ -23,10 +23,10 @@ use Rattle.text.specs.Written.{gateLine, gateLines, textOf, wiresLine}
 -- ---- a byte and its two digits
 
 -- the last two digits of a number stand for its low byte
-pub pair-low : (v : ℕ) → pair (digit (v / 16 % 16)) (digit (v % 16)) ≡ v % 256
+pub pair-low : (v : ℕ) → pair (digit (v / 16 % 16)) (digit (v % 16)) ≡ v % byteValues
 pair-low v = omega (arith, value-digit (v / 16 % 16) (omega arith) .value, value-digit (v % 16) (omega arith) .value)
 
-pub pair-hex : (v : ℕ) → v < 256 → pair (digit (v / 16 % 16)) (digit (v % 16)) ≡ v
+pub pair-hex : (v : ℕ) → v < byteValues → pair (digit (v / 16 % 16)) (digit (v % 16)) ≡ v
 pair-hex v h = pair-low v ∙ omega arith
 
 pub hex-pair : (a b : ℕ) → isDigit a ≡ true → isDigit b ≡ true → hex2 (pair a b) ≡ a ∷ b ∷ []
@@ -83,13 +83,18 @@ gates-pass (g ∷ gs) i t h =
 -- ---- what is written reads back
 
 abbrev pub AllBytes : List ℕ → Type 0
-AllBytes bytes = (i : ℕ) → getD bytes i 0 < 256
+AllBytes bytes = (i : ℕ) → getD bytes i 0 < byteValues
 
-digits-decoded : (kind a b : ℕ) → kind < 256 → a < 256 → b < 256 → decoded (digitsOf (gate kind a b)) ≡ kind ∷ a ∷ b ∷ []
+-- and the three numbers of a gate
+abbrev pub AreBytes : ℕ → ℕ → ℕ → Type 0
+AreBytes kind a b = (kind < byteValues) × (a < byteValues) × (b < byteValues)
+
+digits-decoded : (kind a b : ℕ) → kind < byteValues → a < byteValues → b < byteValues
+    → decoded (digitsOf (gate kind a b)) ≡ kind ∷ a ∷ b ∷ []
 unfolding decoded
 digits-decoded kind a b h k l = rw (pair-hex kind h, pair-hex a k, pair-hex b l)
 
-pub line-decoded : (kind a b : ℕ) (t : List ℕ) → kind < 256 → a < 256 → b < 256
+pub line-decoded : (kind a b : ℕ) (t : List ℕ) → kind < byteValues → a < byteValues → b < byteValues
     → linesDecoded (linesOf (gateLine (gate kind a b) ++ t)) ≡ kind ∷ a ∷ b ∷ linesDecoded (linesOf t)
 unfolding linesDecoded
 line-decoded kind a b t h k l =

@@ -2,7 +2,7 @@
 use Prim.Native.Nat.{_*_, _+_, ℕ}
 use Rattle.circuit.specs.Limits.{gateBytes, maxGates, maxWrittenGates}
 
--- a byte has 256 values, which two digits tell
+-- a byte has so many values, which two digits tell
 abbrev pub byteValues : ℕ
 byteValues = 16 * 16
 

@@ -3,6 +3,9 @@ use circuit::limits::GATE_BYTES;
 use circuit::limits::MAX_GATES;
 use circuit::limits::MAX_WRITTEN_GATES;
 
+// A byte has so many values, which two digits tell.
+pub const BYTE_VALUES: usize = 16 * 16;
+
 // n, of line one.
 pub const WIRES_DIGITS: usize = 2;
 

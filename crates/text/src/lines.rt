@@ -12,6 +12,7 @@ ghost use Rattle.text.specs.Written.{countsLine, gateLine, gateLines, nu
 use crate::hex::NEWLINE;
 use crate::hex::SPACE;
 use crate::hex::last_digit;
+use crate::limits::BYTE_VALUES;
 use circuit::copying::copy_bytes;
 use circuit::limits::GATE_BYTES;
 
@@ -90,7 +91,7 @@ fn put_number(v: usize, after: u8, out: &mut [u8], at: usize) -> usize
     requires { ⌜ at + 5 ≤ length (now out) ⌝ }
     ensures { λ r. ⌜ Writes (now (out .entry)) at (number v after) (now (out .exit)) r ⌝ }
 {
-    let p = put_two(v / 256, out, at);
+    let p = put_two(v / BYTE_VALUES, out, at);
     let q = put_two(v, out, p);
     put_byte(after, out, q)
 }

@@ -1,7 +1,7 @@
 -- One test over the whole table, computed, carried to each entry.
 use mathlib.Core.Path.{refl}
 use Rattle.gf2.specs.Bit.{bit}
-use Rattle.moves.specs.Decide.{every}
+use Rattle.gf2.specs.Every.{every}
 use Rattle.moves.specs.Product.{tri}
 use Rattle.columns.proofs.Entries.{entryRight, pairRight, table-by}
 use Rattle.columns.proofs.table.products.Statement.{statement}

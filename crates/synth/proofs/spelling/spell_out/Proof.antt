@@ -1,85 +1,69 @@
--- Each weight by its spelling.
+-- The gates of the kinds that spell the weight.
 use mathlib.Core.List.{List}
-use mathlib.Core.Path.{_≡_}
+use mathlib.Core.Path.{_≡_, subst, sym}
 use Prim.Native.Nat.{ℕ}
-use native.Mathlib.Omega.{arith}
 use borrow.Author.Needs.{needs}
 use denote.Ref.{now}
-use Rattle.synth.proofs.PhaseTurns.{no-weight-left}
+use Rattle.circuit.specs.Gate.{Gate}
+use Rattle.synth.proofs.PhaseTurns.{spell-none, spell-one, spell-two}
 use Rattle.synth.proofs.Stores.{stored-none}
-use Rattle.synth.specs.Spelling.{spelling}
 use Rattle.synth.specs.Storing.{Room, Stored}
 use Rattle.synth.specs.Writing.{spell}
 use Rattle.synth.proofs.spelling.spell_out.Statement.{statement}
 use Rattle.synth.proofs.spelling.spell_out.Tie as tie
 
--- the weight is v: there is room for its gates, and those that are stored are the gates asked for
-module _ (s : tie.Start) (v : ℕ) (e : s .args .v ≡ v) where
-  room : Room (now (s .args .gates)) (s .args .k) (spell v (s .args .t))
-  room = rw e at (s .pre .1)
+-- the weight is spelled by these gates: there is room for them, and where they are stored the weight is spelled
+module _ (s : tie.Start) (gs : List Gate) (e : spell (s .args .v) (s .args .t) ≡ gs) where
+  room : Room (now (s .args .gates)) (s .args .k) gs
+  room = subst (λ (x : List Gate). Room (now (s .args .gates)) (s .args .k) x) e (s .pre .1)
 
-  stored : {g : List ℕ} {k : ℕ} → Stored (now (s .args .gates)) g (s .args .k) k (spell v (s .args .t))
+  stored : {g : List ℕ} {k : ℕ} → Stored (now (s .args .gates)) g (s .args .k) k gs
       → Stored (now (s .args .gates)) g (s .args .k) k (spell (s .args .v) (s .args .t))
-  stored h = rw e h
+  stored {g} {k} h = subst (λ (x : List Gate). Stored (now (s .args .gates)) g (s .args .k) k x) (sym e) h
+
+push-requires : tie.Need-push-requires
+push-requires c κs =
+    let one : tie.After-kind = search in
+    let r : tie.After-kinds-for = search in
+    room (search) _ (spell-one _ _ (r .kinds-for .result) (r .kinds-for .ensures) _ (one .kind .given .1))
+
+push-two-requires : tie.Need-push-two-requires
+push-two-requires c κs =
+    let two : tie.After-first = search in
+    let r : tie.After-kinds-for = search in
+    room (search) _ (spell-two _ _ (r .kinds-for .result) (r .kinds-for .ensures) _ _ (two .first .given .1))
 
 returns : tie.Need-returns
-unfolding spell spelling
-returns c = let p : tie.After-push = search in stored (search) 1 (omega arith) (p .push .ensures)
+returns c =
+    let r : tie.After-kinds-for = search in
+    stored (search) _ (spell-none _ _ (r .kinds-for .result) (r .kinds-for .ensures) (c .enum-told .given .1)) (stored-none _ _)
 
 returns-2 : tie.Need-returns-2
-unfolding spell spelling
-returns-2 c = let p : tie.After-push2 = search in stored (search) 2 (omega arith) (p .push2 .ensures)
+returns-2 c =
+    let p : tie.After-push = search in
+    let one : tie.After-kind = search in
+    let r : tie.After-kinds-for = search in
+    stored (search) _ (spell-one _ _ (r .kinds-for .result) (r .kinds-for .ensures) _ (one .kind .given .1)) (p .push .ensures)
 
 returns-3 : tie.Need-returns-3
-unfolding spell spelling
-returns-3 c = let p : tie.After-push-two = search in stored (search) 3 (omega arith) (p .push-two .ensures)
-
-returns-4 : tie.Need-returns-4
-unfolding spell spelling
-returns-4 c = let p : tie.After-push3 = search in stored (search) 4 (omega arith) (p .push3 .ensures)
-
-returns-5 : tie.Need-returns-5
-unfolding spell spelling
-returns-5 c = let p : tie.After-push-two2 = search in stored (search) 5 (omega arith) (p .push-two2 .ensures)
-
-returns-6 : tie.Need-returns-6
-unfolding spell spelling
-returns-6 c = let p : tie.After-push4 = search in stored (search) 6 (omega arith) (p .push4 .ensures)
-
-returns-7 : tie.Need-returns-7
-unfolding spell spelling
-returns-7 c = let p : tie.After-push5 = search in stored (search) 7 (omega arith) (p .push5 .ensures)
-
-returns-8 : tie.Need-returns-8
-unfolding spell spelling
-returns-8 c =
-    let s : tie.Start = search in
-    stored s 0 (no-weight-left (s .args .v) (s .pre .0) (search) (search) (search) (search) (search) (search) (search)) (stored-none _ _)
+returns-3 c =
+    let p : tie.After-push-two = search in
+    let two : tie.After-first = search in
+    let r : tie.After-kinds-for = search in
+    stored (search) _ (spell-two _ _ (r .kinds-for .result) (r .kinds-for .ensures) _ _ (two .first .given .1)) (p .push-two .ensures)
 
 pub spell-out-spec : {M : Type 1} → statement M
-unfolding spell spelling
 spell-out-spec =
     tie.close
     (tie.spec
-    (λ c κs. room (search) 1 (omega arith))
-    (λ c κs. room (search) 2 (omega arith))
-    (λ c κs. room (search) 3 (omega arith))
-    (λ c κs. room (search) 4 (omega arith))
-    (λ c κs. room (search) 5 (omega arith))
-    (λ c κs. room (search) 6 (omega arith))
-    (λ c κs. room (search) 7 (omega arith))
+    (λ c κs. search needs)
     (λ c. search needs)
+    (λ c. search needs)
+    push-requires
+    (λ c. search needs)
+    push-two-requires
     returns
     (λ c. search needs)
     returns-2
     (λ c. search needs)
-    returns-3
-    (λ c. search needs)
-    returns-4
-    (λ c. search needs)
-    returns-5
-    (λ c. search needs)
-    returns-6
-    (λ c. search needs)
-    returns-7
-    returns-8)
+    returns-3)

@@ -1,4 +1,4 @@
--- One place of a list gathers others: the numbers at the places of a mask are xored into place t.
+-- The numbers at the places of a mask, xored into place t of a list.
 -- What that does to every combination, and that it undoes itself.
 use mathlib.Core.List.{List}
 use mathlib.Core.Path.{ap, ap₂, sym, _∙_, _≡_}
@@ -8,7 +8,7 @@ use native.Mathlib.Omega.{arith}
 use lib.Bits.{bitXor, xor-zero-r}
 use lib.ListN.{getD, length, set}
 use lib.Seq.{getD-set-same, set-getD, set-set}
-use Rattle.gf2.proofs.Selection.{carry, combine-add, combine-first, combine-next}
+use Rattle.gf2.proofs.Selection.{remask, combine-add, combine-first, combine-next}
 use Rattle.gf2.proofs.Xor.{xor-cancel}
 use Rattle.gf2.specs.Bit.{bit}
 use Rattle.gf2.specs.Selection.{combine}
@@ -20,23 +20,23 @@ combine-agree zero s xs ys h = combine-first s xs ∙ sym (combine-first s ys)
 combine-agree (suc k) s xs ys h =
     rw (combine-next s k xs, combine-next s k ys, combine-agree k s xs ys (λ i l. h i (omega arith)), h k (omega arith))
 
-abbrev pub gather : ℕ → ℕ → List ℕ → List ℕ
-gather t q ys = set ys t (bitXor (getD ys t 0) (combine q ys))
+abbrev pub xorInto : ℕ → ℕ → List ℕ → List ℕ
+xorInto t q ys = set ys t (bitXor (getD ys t 0) (combine q ys))
 
-pub combine-gather : (s t q : ℕ) (ys : List ℕ) → t < length ys → combine s (gather t q ys) ≡ combine (carry t q s) ys
-combine-gather s t q ys h = combine-add s t q ys h
+pub combine-into : (s t q : ℕ) (ys : List ℕ) → t < length ys → combine s (xorInto t q ys) ≡ combine (remask t q s) ys
+combine-into s t q ys h = combine-add s t q ys h
 
 module _ (t q : ℕ) (off : bit q t ≡ 0) where
   -- a mask that does not name t sees no change
-  pub gather-unseen : (ys : List ℕ) → t < length ys → combine q (gather t q ys) ≡ combine q ys
-  gather-unseen ys h = combine-gather q t q ys h ∙ ap (λ (m : ℕ). combine m ys) same
+  pub into-unseen : (ys : List ℕ) → t < length ys → combine q (xorInto t q ys) ≡ combine q ys
+  into-unseen ys h = combine-into q t q ys h ∙ ap (λ (m : ℕ). combine m ys) same
     where
-      same : carry t q q ≡ q
+      same : remask t q q ≡ q
       same = rw (off, zero-mul q) (xor-zero-r q)
 
-  pub gather-twice : (ys : List ℕ) → t < length ys → gather t q (gather t q ys) ≡ ys
-  gather-twice ys h =
+  pub into-twice : (ys : List ℕ) → t < length ys → xorInto t q (xorInto t q ys) ≡ ys
+  into-twice ys h =
       let v : ℕ = bitXor (getD ys t 0) (combine q ys) in
       set-set ys t v (bitXor (getD (set ys t v) t 0) (combine q (set ys t v)))
-      ∙ ap (set ys t) (ap₂ bitXor (getD-set-same ys t v 0 h) (gather-unseen ys h) ∙ xor-cancel (getD ys t 0) (combine q ys))
+      ∙ ap (set ys t) (ap₂ bitXor (getD-set-same ys t v 0 h) (into-unseen ys h) ∙ xor-cancel (getD ys t 0) (combine q ys))
       ∙ set-getD ys t 0
