@@ -35,7 +35,7 @@ use Rattle.answer.specs.Printed.{Prints, PrintsGates, PrintsTrim}
 use Rattle.answer.specs.declared.Answered.{Answered}
 use Rattle.answer.specs.declared.Answered.the-variants.{Done, Refused}
 
--- ---- the first 28,676 bytes decide
+-- ---- the first bytes decide
 
 -- a call with these bytes alone replies and leaves what one with the whole text may
 pub first-bytes-decide-reply : (t out out′ : List ℕ) (r : Answered) → AnswerText (take textBytes t) out out′ r → AnswerText t out out′ r

@@ -1,7 +1,7 @@
 -- The laws of circuits on one page, for lists, replies and buffers as document 01 words them. The proofs are in the modules named.
 use mathlib.Core.List.{_++_, List, _∷_}
 use mathlib.Core.Logic.{_⊎_}
-use mathlib.Core.Path.{ap, ap₂, subst, sym, _∙_, _≡_}
+use mathlib.Core.Path.{ap, ap₂, refl, subst, sym, _∙_, _≡_}
 use Prim.Native.Nat.{_+_, _<_, _^_, ℕ, _≤_}
 use native.Mathlib.Omega.{arith}
 use lib.ListN.{length}
@@ -13,7 +13,8 @@ use Rattle.circuit.specs.Entry.{ReadList, readBytes, readLent, readReply
 use Rattle.circuit.specs.Faults.{Accepted, AllWellFormed, FirstFault, WellFormed, firstFault, lentFault}
 use Rattle.circuit.specs.Gate.{Gate, gate, gatesOf, isT, tGates}
 use Rattle.circuit.specs.Lent.{readingLent}
-use Rattle.circuit.specs.Limits.{maxWires, rowCells, tableBytes}
+use Rattle.circuit.specs.Limits.{logCells, maxGates, maxListBytes, maxMembers, maxWires, maxWrittenGates, moveCells, productBits}
+use Rattle.circuit.specs.Limits.{rowCells, tableBytes, writeBytes}
 use Rattle.circuit.specs.OddSet.{members, oddSet}
 use Rattle.circuit.specs.Read.{Reading, read}
 use Rattle.circuit.specs.Run.{run}
@@ -87,3 +88,14 @@ module _ (n : ℕ) (bytes weights rows weights′ rows′ : List ℕ) (r : ReadL
   pub read-leaves-sound : SoundReading maxWires n (readingLent weights′ rows′)
   read-leaves-sound =
       subst (λ (y : Reading). SoundReading maxWires n y) is (read-sound maxWires n (accepted .few) (gatesOf bytes) (accepted .formed))
+
+-- ---- the numbers that document 01 gives are those that follow from its wires, its gates and the bytes of a gate
+
+pub list-numbers : (maxWires ≡ 8) × (maxGates ≡ 4096) × (maxListBytes ≡ 12288) × (maxWrittenGates ≡ 2112) × (writeBytes ≡ 6336)
+list-numbers = (refl, refl, refl, refl, refl)
+
+pub table-numbers : (tableBytes ≡ 256) × (rowCells ≡ 8) × (productBits ≡ 36)
+table-numbers = (refl, refl, refl)
+
+pub move-numbers : (maxMembers ≡ 38) × (moveCells ≡ 40) × (logCells ≡ 10200)
+move-numbers = (refl, refl, refl)

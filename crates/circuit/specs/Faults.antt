@@ -16,15 +16,15 @@ use Rattle.circuit.specs.declared.Reply.the-variants.{Done, Refused}
 
 -- ---- the table's numbers, each once by name
 
--- wire count 0 or above 8
+-- wire count 0 or above maxWires
 abbrev pub wireCount : ℕ
 wireCount = 1
 
--- list not a multiple of three bytes, or over 12,288
+-- list not a multiple of three bytes, or over maxListBytes
 abbrev pub listLength : ℕ
 listLength = 2
 
--- kind outside 1 to 6
+-- kind outside 1 to lastKind
 abbrev pub gateKind : ℕ
 gateKind = 3
 

@@ -2,7 +2,7 @@
 -- parameter: only contracts cite these.
 use Prim.Native.Nat.{_*_, _+_, _-_, _/_, _^_, ℕ}
 
--- a wire count is 1 to 8
+-- a wire count is 1 to this
 abbrev pub maxWires : ℕ
 maxWires = 8
 

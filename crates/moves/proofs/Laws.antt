@@ -11,7 +11,7 @@ use lib.Count.{trailingZeros}
 use lib.Dec.{T}
 use lib.ListN.{length}
 use lib.Pow.{pow-mono}
-use Rattle.circuit.specs.Limits.{logCells, maxMembers, maxWires, moveCells, parities, productBits}
+use Rattle.circuit.specs.Limits.{maxMembers, maxWires, parities, productBits}
 use Rattle.circuit.specs.OddSet.{members}
 use Rattle.circuit.specs.Sound.{SoundMarks}
 use Rattle.gf2.proofs.Leading.{lowest}
@@ -118,7 +118,3 @@ limits-suffice n h = (pow-mono {i = n} {j = maxWires} h, few, refl)
   where
     few : n * (n + 1) / 2 + 1 ≤ maxMembers
     few = omega (arith, tri-mono n maxWires h)
-
--- document 01's numbers: entries of 36 bits, forty cells a move, a log of 10,200
-pub limits-numbers : (productBits ≡ 36) × (moveCells ≡ 40) × (logCells ≡ 10200)
-limits-numbers = (refl, refl, refl)

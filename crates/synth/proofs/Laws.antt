@@ -93,7 +93,7 @@ module _ (n : ℕ) (w rows g g′ : List ℕ) (count : ℕ) (x : WriteList n w r
   pub written-reads-back : readBytes n (take (gateBytes * count) g′) ≡ readingLent w rows
   written-reads-back = x .gates-left .list .reads
 
-  -- at most n * 2^n + n * n gates; 2,112 on eight wires
+  -- at most n * 2^n + n * n gates
   pub written-few : (count ≤ writtenGates n) × (count ≤ maxWrittenGates)
   written-few =
       let l : count ≤ writtenGates n = omega (arith, x .gates-left .counted, x .gates-left .list .short) in

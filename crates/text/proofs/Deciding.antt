@@ -1,4 +1,5 @@
--- The first 28,676 bytes of a text decide what it is: the digits and newlines of 4,096 gate lines, and whether there is one byte more.
+-- The first textBytes bytes of a text decide what it is: the digits and newlines of line one and of the most gate lines, and whether there
+-- is one byte more.
 use mathlib.Core.Bool.{Bool, false, true}
 use mathlib.Core.List.{List, [], _∷_}
 use mathlib.Core.Path.{_∙_, _≡_, ap, ap₂, refl, sym}

@@ -2,9 +2,7 @@
 use mathlib.Core.List.{[], _∷_, _++_}
 use mathlib.Core.Path.{_≡_, refl}
 use Rattle.circuit.specs.Gate.{gate}
-use Rattle.circuit.specs.Limits.{maxWrittenGates}
 use Rattle.text.specs.Hex.{digit, isDigit, valueOf}
-use Rattle.text.specs.Limits.{replyBytes, textBytes}
 use Rattle.text.specs.Lines.{areDigits, decoded, linesDecoded, linesOf}
 use Rattle.text.specs.Text.{circuit, faulty, gatesFault, readText}
 use Rattle.text.specs.Written.{countsLine, gateLines, refusedLine, wiresLine}
@@ -62,10 +60,10 @@ no-wires : readText (48 ∷ 48 ∷ 10 ∷ []) ≡ faulty 1 0
 unfolding readText linesOf areDigits gatesFault decoded linesDecoded isDigit valueOf
 no-wires = refl
 
--- nine wires
-nine-wires : readText (48 ∷ 57 ∷ 10 ∷ []) ≡ faulty 1 0
+-- more wires than there can be: `ff`
+many-wires : readText (102 ∷ 102 ∷ 10 ∷ []) ≡ faulty 1 0
 unfolding readText linesOf areDigits gatesFault decoded linesDecoded isDigit valueOf
-nine-wires = refl
+many-wires = refl
 
 -- of line one the form is judged before the count
 form-then-count : readText (48 ∷ 48 ∷ []) ≡ faulty 9 1
@@ -73,7 +71,7 @@ unfolding readText linesOf areDigits gatesFault decoded linesDecoded isDigit val
 form-then-count = refl
 
 -- and the count before the next line
-count-then-gates : readText (48 ∷ 57 ∷ 10 ∷ 48 ∷ []) ≡ faulty 1 0
+count-then-gates : readText (102 ∷ 102 ∷ 10 ∷ 48 ∷ []) ≡ faulty 1 0
 unfolding readText linesOf areDigits gatesFault decoded linesDecoded isDigit valueOf
 count-then-gates = refl
 
@@ -91,14 +89,3 @@ printed = refl
 printed-fault : refusedLine 9 4097 ≡ 114 ∷ 101 ∷ 102 ∷ 117 ∷ 115 ∷ 101 ∷ 100 ∷ 32 ∷ 48 ∷ 57 ∷ 32 ∷ 49 ∷ 48 ∷ 48 ∷ 49 ∷ 10 ∷ []
 unfolding digit
 printed-fault = refl
-
--- ---- the limits
-
-text-limit : textBytes ≡ 28676
-text-limit = refl
-
-written-limit : maxWrittenGates ≡ 2112
-written-limit = refl
-
-reply-limit : replyBytes ≡ 14807
-reply-limit = refl

@@ -70,13 +70,13 @@ module _ (n : ℕ) (bytes rest : List ℕ) (is : Sayable n bytes) (more : 0 < le
       read-faulty (textOf n bytes ++ rest) malformed (length (gatesOf bytes) + 2)
       (circuit-pass n bytes is rest ∙ gate-wrong rest 0 (length (gatesOf bytes)) more (omega (arith, length-gates bytes (is .whole))) e)
 
-  -- after 4,096 gates anything at all gives 2
+  -- after the most gates anything at all gives 2
   pub one-line-more : length bytes ≡ maxListBytes → readText (textOf n bytes ++ rest) ≡ faulty listLength 0
   one-line-more h =
       read-faulty (textOf n bytes ++ rest) listLength 0
       (circuit-pass n bytes is rest ∙ one-too-many rest 0 (length (gatesOf bytes)) more (omega (arith, length-gates bytes (is .whole))))
 
--- every fault's number is at most 9 and its place at most 4,097, so two and four digits say them
+-- every fault's number is at most 9 and its place at most one more than the most gates, so two and four digits say them
 pub fault-small : (lent : ℕ) (t : List ℕ) (number place : ℕ) → readInto lent t ≡ faulty number place
     → (number ≤ malformed) × (place ≤ maxGates + 1)
 fault-small lent t number place e = go (decLt lent maxListBytes)
@@ -95,7 +95,10 @@ fault-small lent t number place e = go (decLt lent maxListBytes)
     go (yes h) = same lentOutput 0 (simp (lt-ltb lent maxListBytes h) at e) (omega arith)
     go (no h) = of-text (linesFault (linesOf t)) refl (simp (le-ltb lent maxListBytes (omega arith)) at e)
 
--- ---- the first 28,676 bytes decide
+-- ---- the first bytes decide: 28,676 of them
+
+pub text-numbers : (textBytes ≡ 28676) × (replyBytes ≡ 14807)
+text-numbers = (refl, refl)
 
 pub first-bytes-decide : (t : List ℕ) → readText t ≡ readText (take textBytes t)
 first-bytes-decide t = sym (text-decided t)

@@ -17,7 +17,7 @@ abbrev pub wiresIn : Line → ℕ
 wiresIn l = getD (lineDecoded l) 0 0
 
 -- the first fault of the gate lines, the first of which is gate line i, counted from 0: line i + 2 of the text.
--- Gate line 4,097 gives 2 whatever it holds
+-- Gate line maxGates + 1 gives 2 whatever it holds
 unfoldable pub gatesFault : ℕ → List Line → Reply
 gatesFault i [] = Done
 gatesFault i (l ∷ ls) =
