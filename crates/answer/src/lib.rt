@@ -10,7 +10,7 @@ ghost use Rattle.text.specs.Placed.{Writes};
 ghost use Rattle.text.specs.Text.{Sayable, circuit, readText};
 ghost use Rattle.answer.specs.Entry.{AnswerText, Writes-printed};
 ghost use Rattle.answer.specs.Printed.{trimLines};
-use circuit::faults::OUTPUT;
+use circuit::faults::LENT_OUTPUT;
 use circuit::limits::GATE_BYTES;
 use circuit::limits::LOG_CELLS;
 use circuit::limits::MAX_LIST_BYTES;
@@ -40,7 +40,7 @@ pub fn answer(text: &[u8], out: &mut [u8]) -> Answered
 {
     if out.len() < REPLY_BYTES {
         return Answered::Refused {
-            number: OUTPUT,
+            number: LENT_OUTPUT,
             place: 0,
         };
     }

@@ -25,7 +25,7 @@ pub const TABLE_RULE: u8 = 6;
 
 pub const ROW_RULE: u8 = 7;
 
-pub const OUTPUT: u8 = 8;
+pub const LENT_OUTPUT: u8 = 8;
 
 pub const MALFORMED: u8 = 9;
 
@@ -61,14 +61,14 @@ pub fn list_fault(bytes: usize) -> u8
 pub fn lent_fault(bytes: usize, wanted: usize) -> u8
     ensures { λ r. ⌜ r ≡ lentFault bytes wanted ⌝ }
 {
-    if bytes == wanted { 0 } else { OUTPUT }
+    if bytes == wanted { 0 } else { LENT_OUTPUT }
 }
 
 // Fault 8: a lent output has less room than it must have.
 pub fn short_fault(bytes: usize, wanted: usize) -> u8
     ensures { λ r. ⌜ r ≡ shortFault bytes wanted ⌝ }
 {
-    if wanted <= bytes { 0 } else { OUTPUT }
+    if wanted <= bytes { 0 } else { LENT_OUTPUT }
 }
 
 // The first of two faults, in the order of the checks.

@@ -1,5 +1,5 @@
-// The kinds of gates, each once by name, and what a gate's kind byte says (document 01, "Gates and what they do"). Every other function
-// asks here.
+// The kinds of gates, each once by name, and what a gate's kind byte says (document 01, "Gates and what they do"). Reading and judging
+// ask here.
 ghost use mathlib.Core.Path.{_≡_};
 ghost use Prim.Native.Nat.{_≤_};
 ghost use Rattle.circuit.specs.Gate.{T, T-dagger, kindOf};

@@ -8,7 +8,7 @@ pub mod lines;
 pub mod reading;
 
 use circuit::Reply;
-use circuit::faults::OUTPUT;
+use circuit::faults::LENT_OUTPUT;
 use circuit::limits::MAX_LIST_BYTES;
 use reading::byte_at;
 use reading::store_gates;
@@ -26,7 +26,7 @@ pub fn read_text(text: &[u8], gates: &mut [u8]) -> TextReply
 {
     if gates.len() < MAX_LIST_BYTES {
         return TextReply::Refused {
-            number: OUTPUT,
+            number: LENT_OUTPUT,
             place: 0,
         };
     }
