@@ -6,13 +6,13 @@ use Prim.Native.Nat.{_+_, _<_, _^_, suc, ℕ}
 use native.Mathlib.Nat.{le-refl}
 use native.Mathlib.Numerals.{add-one}
 use lib.Bits.{bitXor, xor-zero-l, xor-zero-r}
-use lib.Count.{trailingZeros}
 use lib.Dec.{eqb}
 use lib.ListN.{drop, getD, length}
 use lib.Seq.{drop-cons, drop-length}
-use Rattle.gf2.proofs.Leading.{lowest}
+use Rattle.gf2.proofs.Leading.{lowest-set}
 use Rattle.gf2.proofs.Xor.{xor-assoc}
 use Rattle.gf2.specs.Over.{Below, xorAll}
+use Rattle.gf2.specs.Parity.{lowest}
 use Rattle.moves.proofs.OneXor.{balanced-iff}
 use Rattle.moves.specs.Kappa.{kappa}
 use Rattle.moves.specs.Move.{Balanced}
@@ -44,9 +44,9 @@ xor-end {f} {Y} {i} {s} h e =
     sym (xor-zero-r s) ∙ ap (λ (q : List ℕ). bitXor s (xorAll (map f q))) (sym (ap (λ (j : ℕ). drop j Y) e ∙ drop-length Y)) ∙ h .all
 
 -- t is the lowest wire of z, and N the most wires
-pub balanced-by-xor : {N z t s : ℕ} {Y : List ℕ} → z ≢ 0 → z < 2 ^ N → t ≡ trailingZeros N z → Below (2 ^ N) Y
+pub balanced-by-xor : {N z t s : ℕ} {Y : List ℕ} → z ≢ 0 → z < 2 ^ N → t ≡ lowest N z → Below (2 ^ N) Y
     → s ≡ xorAll (map (kappa N z t) Y) → Decides (eqb s 0) (Balanced N z Y)
 balanced-by-xor {N} {z} {t} {s} {Y} some fits is-wire below e =
-    let low = lowest N N z (le-refl N) some fits in
+    let low = lowest-set N N z (le-refl N) some fits in
     let b = balanced-iff N z t (rw is-wire (low .0)) (rw is-wire (low .1)) Y below in
     decides-as (λ q. b .1 (sym e ∙ q)) (λ q. e ∙ b .0 q) (decides-equal s 0)

@@ -1,4 +1,4 @@
--- A table that a loop fills from the front, one `put_cell` a turn.
+-- Cells that a loop fills from the front, one `put_cell` a turn.
 use mathlib.Core.List.{List}
 use mathlib.Core.Path.{_∙_, _≡_, ap}
 use Prim.Native.Nat.{_+_, _<_, ℕ}

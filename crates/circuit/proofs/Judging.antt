@@ -10,7 +10,7 @@ use native.Mathlib.Omega.{arith}
 use lib.ListN.{length}
 use borrow.Author.Tests.{eq-eqb, le-leb, lt-leb, ne-eqb}
 use Rattle.circuit.specs.Faults.{Accepted, AllWellFormed, FirstFault, Has, KindHas, KindWellFormed, WellFormed}
-use Rattle.circuit.specs.Faults.{cnotFault, firstFault, gateAt, gateFault, gateWire, kindFault, phaseFault, refuse, sameWire}
+use Rattle.circuit.specs.Faults.{cnotFault, firstFault, gateAt, gateFault, gateWire, kindFault, oneWireFault, refuse, sameWire}
 use Rattle.circuit.specs.Faults.{lentFault, listCallFault, listFault, listReply, orElse, shortFault, wiresFault}
 use Rattle.circuit.specs.Gate.{Gate, gate, gatesOf, kindOf}
 use Rattle.circuit.specs.Limits.{gateBytes, maxListBytes, maxWires}
@@ -109,13 +109,13 @@ module _ (n a b : ℕ) where
   cnot-well : a < n → b < n → a ≢ b → cnotFault n a b ≡ 0
   cnot-well h k e = simp (lt-leb n a h, lt-leb n b k, ne-eqb a b e)
 
-  wire-out : n ≤ a → phaseFault n a b ≡ gateWire
+  wire-out : n ≤ a → oneWireFault n a b ≡ gateWire
   wire-out h = simp (le-leb n a h)
 
-  second-set : a < n → b ≢ 0 → phaseFault n a b ≡ gateWire
+  second-set : a < n → b ≢ 0 → oneWireFault n a b ≡ gateWire
   second-set h e = simp (lt-leb n a h, ne-eqb b 0 e)
 
-  phase-well : a < n → b ≡ 0 → phaseFault n a b ≡ 0
+  phase-well : a < n → b ≡ 0 → oneWireFault n a b ≡ 0
   phase-well h e = simp (lt-leb n a h, eq-eqb b 0 e)
 
 -- a gate has a fault, and the one computed is the first that it has; or it is well formed
@@ -151,13 +151,13 @@ judge-cnot n a b = go (decLe n a) (decLe n b) (ℕ-discrete a b)
     go (no h) (no k) (yes d) = same (wires-same n a b (omega arith) (omega arith) d) (omega arith) (omega arith) d
     go (no h) (no k) (no d) = well (cnot-well n a b (omega arith) (omega arith) d) (omega arith, omega arith, d)
 
-judge-phase : (n v a b : ℕ) → Judged n (Phase v) a b (phaseFault n a b)
+judge-phase : (n v a b : ℕ) → Judged n (Phase v) a b (oneWireFault n a b)
 judge-phase n v a b = go (decLe n a) (ℕ-discrete b 0)
   where
-    out : (n ≤ a) ⊎ (b ≢ 0) → phaseFault n a b ≡ gateWire → Judged n (Phase v) a b (phaseFault n a b)
+    out : (n ≤ a) ⊎ (b ≢ 0) → oneWireFault n a b ≡ gateWire → Judged n (Phase v) a b (oneWireFault n a b)
     out h e = bad (omega arith) (e, h) (λ g k. omega (arith, k .0))
 
-    go : Dec (n ≤ a) → Dec (b ≡ 0) → Judged n (Phase v) a b (phaseFault n a b)
+    go : Dec (n ≤ a) → Dec (b ≡ 0) → Judged n (Phase v) a b (oneWireFault n a b)
     go (yes h) d = out (inl h) (wire-out n a b h)
     go (no h) (no d) = out (inr d) (second-set n a b (omega arith) d)
     go (no h) (yes d) = well (phase-well n a b (omega arith) d) (omega arith, d)

@@ -7,13 +7,13 @@ use Prim.Native.Nat.{_%_, _+_, _<_, _^_, ℕ, _≤_}
 use native.Mathlib.Decide.{decLt, ℕ-discrete}
 use native.Mathlib.Omega.{arith}
 use lib.Bits.{bitXor, xor-lt}
-use lib.ListN.{List·getD-eq-default, getD, getD-replicate, length, length-replicate, length-set, replicate, set}
+use lib.ListN.{List·getD-eq-default, getD, length, length-replicate, length-set, set}
 use lib.Pow.{high, pow-lt, pow-mono, pow-pos}
 use lib.Seq.{getD-set-other, getD-set-same}
 use borrow.Author.Tests.{le-ltb, lt-ltb}
 use Rattle.gf2.proofs.Bit.{bit-pow-other}
-use Rattle.gf2.proofs.Selection.{remask, remask-lt, remask-nonzero, combine-add, combine-one, combine-units}
-use Rattle.gf2.proofs.Table.{getD-tabulate, length-tabulate}
+use Rattle.gf2.proofs.Selection.{combine-add, combine-one, combine-units, remask, remask-lt, remask-nonzero}
+use Rattle.gf2.proofs.Table.{getD-tabulate, getD-zeros, length-tabulate}
 use Rattle.gf2.specs.Selection.{combine}
 use Rattle.gf2.specs.Table.{addAt, tabulate}
 use Rattle.circuit.specs.Faults.{AllWellFormed, KindWellFormed, WellFormed}
@@ -56,13 +56,9 @@ first-sound N n h =
     at i (yes l) = rw (first-row N n i l h) (pow-lt l)
     at i (no g) = rw (first-rows-beyond N n i (omega arith)) (pow-pos n)
 
-getD-all : (k p z : ℕ) → Dec (p < k) → getD (replicate k z) p z ≡ z
-getD-all k p z (yes l) = getD-replicate k p z z l
-getD-all k p z (no g) = List·getD-eq-default (replicate k z) z (rw (length-replicate k z) (omega arith))
-
 pub no-weight : (N p : ℕ) → getD (noWeights N) p 0 ≡ 0
 unfolding noWeights
-no-weight N p = getD-all (2 ^ N) p 0 (decLt p (2 ^ N))
+no-weight N p = getD-zeros (2 ^ N) p
 
 pub length-none : (N : ℕ) → length (noWeights N) ≡ 2 ^ N
 unfolding noWeights

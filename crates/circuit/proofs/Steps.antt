@@ -10,13 +10,14 @@ use lib.Bits.{bitXor}
 use lib.ListN.{getD, length, set}
 use lib.Pow.{pow-lt, pow-mono}
 use Rattle.gf2.proofs.Table.{getD-tabulate}
-use Rattle.circuit.proofs.Bytes.{byteGate, gates-step, gates-tail, gatesFrom}
+use Rattle.gf2.specs.Table.{addAt}
+use Rattle.circuit.proofs.Bytes.{gates-step, gates-tail, gatesFrom}
 use Rattle.circuit.proofs.Judging.{refused}
 use Rattle.circuit.proofs.Sound.{gate-keeps}
 use Rattle.circuit.specs.Faults.{AllWellFormed, KindWellFormed, firstFault, gateFault}
-use Rattle.circuit.specs.Gate.{Gate, gate, kindOf}
-use Rattle.circuit.specs.Lent.{readingLent}
-use Rattle.circuit.specs.Read.{Reading, firstRow, firstRows, readFrom, readKind}
+use Rattle.circuit.specs.Gate.{Gate, byteGate, gate, kindOf}
+use Rattle.circuit.specs.Limits.{gateBytes}
+use Rattle.circuit.specs.Read.{Reading, firstRow, firstRows, joinRows, readFrom, readKind, row, withRows, withWeights}
 use Rattle.circuit.specs.Sound.{SoundReading}
 use Rattle.circuit.specs.declared.gates.Kind.{Kind}
 use Rattle.circuit.specs.declared.gates.Kind.the-variants.{Cnot, Phase, Unknown}
@@ -24,7 +25,7 @@ use Rattle.circuit.specs.declared.Reply.the-variants.{Done, Refused}
 
 -- ---- the first fault
 
-module _ (n : ℕ) (bytes : List ℕ) (i : ℕ) (inside : 3 * i + 2 < length bytes) (f : ℕ) (e : f ≡ gateFault n (byteGate bytes i)) where
+module _ (n : ℕ) (bytes : List ℕ) (i : ℕ) (inside : gateBytes * i + 2 < length bytes) (f : ℕ) (e : f ≡ gateFault n (byteGate bytes i)) where
   pub fault-here : f ≢ 0 → Refused f i ≡ firstFault n i (gatesFrom bytes i)
   unfolding firstFault
   fault-here h = sym (refused f i (firstFault n (suc i) (gatesFrom bytes (i + 1))) h) ∙ rw (gates-step bytes i inside, e)
@@ -33,82 +34,81 @@ module _ (n : ℕ) (bytes : List ℕ) (i : ℕ) (inside : 3 * i + 2 < length byt
   unfolding firstFault
   fault-later h = rw (gates-step bytes i inside, sym e ∙ h, add-one i)
 
-pub no-fault : (n : ℕ) (bytes : List ℕ) (i : ℕ) → i ≡ length bytes / 3 → Done ≡ firstFault n i (gatesFrom bytes i)
+pub no-fault : (n : ℕ) (bytes : List ℕ) (i : ℕ) → i ≡ length bytes / gateBytes → Done ≡ firstFault n i (gatesFrom bytes i)
 unfolding firstFault
 no-fault n bytes i e = rw (gates-tail bytes i e)
 
 -- ---- reading the list, gate by gate
 
--- gate i is to be read next: the gates from i on are well formed, the tables so far sound, and what is left of the list gives the whole
--- from them
+-- gate i is to be read next: the gates from i on are well formed, the reading so far is sound, and what is left of the list gives
+-- the whole from it
 abbrev pub ReadTo : ℕ → ℕ → List ℕ → Reading → ℕ → Reading → Type 0
 ReadTo N n bytes whole i r = AllWellFormed n (gatesFrom bytes i) × SoundReading N n r × (readFrom (gatesFrom bytes i) r ≡ whole)
 
--- a turn at gate i, with the tables so far
-pub record Turn (N n : ℕ) (bytes : List ℕ) (whole : Reading) (at : ℕ) (w rows : List ℕ) : Type 0 where
+-- a turn at that gate, from the reading so far
+pub record Turn (N n : ℕ) (bytes : List ℕ) (whole : Reading) (at : ℕ) (r : Reading) : Type 0 where
   pub fit : n ≤ N
-  pub inside : 3 * at + 2 < length bytes
-  pub to : ReadTo N n bytes whole at (readingLent w rows)
+  pub inside : gateBytes * at + 2 < length bytes
+  pub to : ReadTo N n bytes whole at r
 
-module _ {N n : ℕ} {bytes : List ℕ} {whole : Reading} {at : ℕ} {w rows : List ℕ} (turn : Turn N n bytes whole at w rows) where
-  abbrev kind : ℕ
-  kind = getD bytes (3 * at) 0
-
-  abbrev a : ℕ
-  a = getD bytes (3 * at + 1) 0
-
-  abbrev b : ℕ
-  b = getD bytes (3 * at + 2) 0
-
-  step : AllWellFormed n (gate kind a b ∷ gatesFrom bytes (at + 1))
-  step = rw (gates-step bytes at (turn .inside)) at (turn .to .0)
-
-  pub rows-long : length rows ≡ N
+module _ {N n : ℕ} {bytes : List ℕ} {whole : Reading} {at : ℕ} {r : Reading} (turn : Turn N n bytes whole at r) where
+  pub rows-long : length (r .rows) ≡ N
   rows-long = turn .to .1 .rows .long
 
   -- a row is a parity
-  pub row-fits : (h : ℕ) → getD rows h 0 < 2 ^ N
+  pub row-fits : (h : ℕ) → row r h < 2 ^ N
   row-fits h = let m : 2 ^ n ≤ 2 ^ N = pow-mono (turn .fit) in omega (arith, turn .to .1 .rows .within h)
+
+-- and its gate
+module _ {N n : ℕ} {bytes : List ℕ} {whole : Reading} {at : ℕ} {r : Reading} (turn : Turn N n bytes whole at r)
+    {kind a b : ℕ} (here : gate kind a b ≡ byteGate bytes at) where
+  step : AllWellFormed n (gate kind a b ∷ gatesFrom bytes (at + 1))
+  step =
+      subst (λ (g : Gate). AllWellFormed n (g ∷ gatesFrom bytes (at + 1))) (sym here)
+      (rw (gates-step bytes at (turn .inside)) at (turn .to .0))
 
   -- its kind byte says k
   module _ (k : Kind) (is : k ≡ kindOf kind) where
     formed : KindWellFormed n k a b
     formed = subst (λ (k : Kind). KindWellFormed n k a b) (sym is) (step .0)
 
-    read-on : (r : Reading) → r ≡ readKind k a b (readingLent w rows) → ReadTo N n bytes whole (at + 1) r
+    read-on : (next : Reading) → next ≡ readKind k a b r → ReadTo N n bytes whole (at + 1) next
     unfolding readFrom
-    read-on r e =
+    read-on next e =
         rw (e, is) (
           step .1,
-          gate-keeps N n (turn .fit) (gate kind a b) (readingLent w rows) (step .0) (turn .to .1),
-          sym (ap (λ (gs : List Gate). readFrom gs (readingLent w rows)) (gates-step bytes at (turn .inside))) ∙ turn .to .2,
+          gate-keeps N n (turn .fit) (gate kind a b) r (step .0) (turn .to .1),
+          ap (λ (g : Gate). readFrom (g ∷ gatesFrom bytes (at + 1)) r) here
+              ∙ sym (ap (λ (gs : List Gate). readFrom gs r) (gates-step bytes at (turn .inside))) ∙ turn .to .2,
         )
 
   module _ (is : Cnot ≡ kindOf kind) where
     pub cnot-wires : (a < N) × (b < N)
     cnot-wires = let f = formed Cnot is in (omega (arith, f .0), omega (arith, f .1))
 
-    -- j is b and holds p, i is a and holds q: the code stores their xor
-    pub cnot-on : {i j p q : ℕ} {rows′ : List ℕ} → i ≡ a → j ≡ b → p ≡ getD rows j 0 → q ≡ getD rows i 0 → rows′ ≡ set rows j (bitXor p q)
-        → ReadTo N n bytes whole (at + 1) (readingLent w rows′)
+    pub cnot-on : {rows′ : List ℕ} → rows′ ≡ joinRows a b (r .rows) → ReadTo N n bytes whole (at + 1) (withRows rows′ r)
     unfolding readKind
-    cnot-on {i} {j} {p} {q} {rows′} ei ej ep eq er = read-on Cnot is (readingLent w rows′) (rw (er, ep, eq, ei, ej))
+    cnot-on {rows′} e = read-on Cnot is (withRows rows′ r) (rw e)
 
   module _ (v : ℕ) (is : Phase v ≡ kindOf kind) where
     pub phase-wire : a < N
     phase-wire = omega (arith, formed (Phase v) is .0)
 
-    -- i is a, and q the parity that it holds, whose weight becomes x
-    pub phase-on : {i q x : ℕ} → i ≡ a → q ≡ getD rows i 0 → x ≡ (getD w q 0 + v) % 8
-        → ReadTo N n bytes whole (at + 1) (readingLent (set w q x) rows)
+    -- p is the parity that wire a holds
+    pub phase-on : {p : ℕ} {w′ : List ℕ} → p ≡ row r a → w′ ≡ addAt 8 (r .weights) p v → ReadTo N n bytes whole (at + 1) (withWeights w′ r)
     unfolding readKind
-    phase-on {i} {q} {x} d e f = read-on (Phase v) is (readingLent (set w q x) rows) (rw (f, e, d))
+    phase-on {p} {w′} d e = read-on (Phase v) is (withWeights w′ r) (rw (e, d))
 
-  pub unknown-on : Unknown ≡ kindOf kind → ReadTo N n bytes whole (at + 1) (readingLent w rows)
+  pub unknown-on : Unknown ≡ kindOf kind → ReadTo N n bytes whole (at + 1) r
   unfolding readKind
-  unknown-on is = read-on Unknown is (readingLent w rows) refl
+  unknown-on is = read-on Unknown is r refl
 
-pub reads-end : (bytes : List ℕ) (i : ℕ) (r : Reading) → i ≡ length bytes / 3 → r ≡ readFrom (gatesFrom bytes i) r
+-- j is b and holds p, i is a and holds q: the code stores their xor
+pub rows-joined : (rows : List ℕ) {rows′ : List ℕ} {i j p q a b : ℕ} → i ≡ a → j ≡ b → p ≡ getD rows j 0 → q ≡ getD rows i 0
+    → rows′ ≡ set rows j (bitXor p q) → rows′ ≡ joinRows a b rows
+rows-joined rows ei ej ep eq er = rw (er, ep, eq, ei, ej)
+
+pub reads-end : (bytes : List ℕ) (i : ℕ) (r : Reading) → i ≡ length bytes / gateBytes → r ≡ readFrom (gatesFrom bytes i) r
 unfolding readFrom
 reads-end bytes i r e = rw (gates-tail bytes i e)
 

@@ -1,12 +1,12 @@
 -- The entry `read`: its reply and what it leaves in the lent buffers, for sound and faulty arguments alike.
 use mathlib.Core.List.{List}
 use mathlib.Core.Path.{_≡_}
-use Prim.Native.Nat.{ℕ}
-use lib.ListN.{length}
+use Prim.Native.Nat.{_<_, ℕ}
+use lib.ListN.{getD, length}
 use Rattle.circuit.specs.Faults.{Accepted, lentFault, listReply, orElse}
 use Rattle.circuit.specs.Gate.{gatesOf}
 use Rattle.circuit.specs.Lent.{readingLent, rowsLent, weightsLent}
-use Rattle.circuit.specs.Limits.{maxWires, rowCells, tableBytes}
+use Rattle.circuit.specs.Limits.{maxWires, parities, rowCells, tableBytes}
 use Rattle.circuit.specs.Read.{Reading, read}
 use Rattle.circuit.specs.declared.Reply.{Reply}
 use Rattle.circuit.specs.declared.Reply.the-variants.{Done, Refused}
@@ -42,6 +42,19 @@ pub record ReadInto (n : ℕ) (bytes weights rows : List ℕ) : Type 0 where
   pub accepted : Accepted n bytes
   pub weights-fit : length weights ≡ tableBytes
   pub rows-fit : length rows ≡ rowCells
+
+-- rows that a CNOT from a to b can join
+pub record Joinable (rows : List ℕ) (a b : ℕ) : Type 0 where
+  pub long : length rows ≡ maxWires
+  pub a-wire : a < maxWires
+  pub b-wire : b < maxWires
+
+-- weights to which phase v can be added at parity p
+pub record Addable (weights : List ℕ) (p v : ℕ) : Type 0 where
+  pub long : length weights ≡ tableBytes
+  pub inside : p < parities
+  pub small : getD weights p 0 < 8
+  pub phase : v < 8
 
 -- the weights and rows of a list stand in what is lent
 pub record ReadOut (n : ℕ) (bytes weights rows : List ℕ) : Type 0 where

@@ -112,12 +112,13 @@ orElse (suc fault) next = suc fault
 abbrev pub cnotFault : ℕ → ℕ → ℕ → ℕ
 cnotFault n a b = either (leb n a) gateWire (either (leb n b) gateWire (either (eqb a b) sameWire 0))
 
-abbrev pub phaseFault : ℕ → ℕ → ℕ → ℕ
-phaseFault n a b = either (leb n a) gateWire (either (eqb b 0) 0 gateWire)
+-- of a gate on one wire
+abbrev pub oneWireFault : ℕ → ℕ → ℕ → ℕ
+oneWireFault n a b = either (leb n a) gateWire (either (eqb b 0) 0 gateWire)
 
 abbrev pub kindFault : ℕ → Kind → ℕ → ℕ → ℕ
 kindFault n Cnot a b = cnotFault n a b
-kindFault n (Phase v) a b = phaseFault n a b
+kindFault n (Phase v) a b = oneWireFault n a b
 kindFault n Unknown a b = gateKind
 
 unfoldable pub gateFault : ℕ → Gate → ℕ
@@ -125,8 +126,8 @@ gateFault n (gate kind a b) = kindFault n (kindOf kind) a b
 
 -- a fault found at place i, or what comes after it
 abbrev pub refuse : ℕ → ℕ → Reply → Reply
-refuse zero i rest = rest
-refuse (suc fault) i rest = Refused (suc fault) i
+refuse zero i next = next
+refuse (suc fault) i next = Refused (suc fault) i
 
 -- the first fault of the gates, the first of which is gate i
 unfoldable pub firstFault : ℕ → ℕ → List Gate → Reply
@@ -142,11 +143,11 @@ abbrev pub listFault : ℕ → ℕ
 listFault bytes = either (eqb (bytes % gateBytes) 0) (either (leb bytes maxListBytes) 0 listLength) listLength
 
 abbrev pub lentFault : ℕ → ℕ → ℕ
-lentFault bytes wanted = either (eqb bytes wanted) 0 lentOutput
+lentFault long wanted = either (eqb long wanted) 0 lentOutput
 
 -- of a lent output that may be longer than it must be
 abbrev pub shortFault : ℕ → ℕ → ℕ
-shortFault bytes wanted = either (leb wanted bytes) 0 lentOutput
+shortFault long wanted = either (leb wanted long) 0 lentOutput
 
 -- the first fault of a call that brings a list of so many bytes: 1, 2, then 8 of what it lends
 abbrev pub listCallFault : ℕ → ℕ → ℕ → ℕ

@@ -1,9 +1,12 @@
 -- Document 01, "Gates and what they do": a gate is three bytes, kind, a and b. A list of gates is read from bytes by `gatesOf`.
 use mathlib.Core.Bool.{cond}
 use mathlib.Core.List.{List, [], _∷_}
-use Prim.Native.Nat.{_+_, ℕ}
+use Prim.Native.Nat.{_*_, _+_, ℕ}
 use lib.Dec.{eqb}
+use lib.ListN.{getD}
 use Rattle.gf2.specs.Sum.{delta}
+use Rattle.circuit.specs.Limits.{gateBytes}
+use Rattle.circuit.specs.declared.gates.GateBytes.{GateBytes}
 use Rattle.circuit.specs.declared.gates.Kind.{Kind}
 use Rattle.circuit.specs.declared.gates.Kind.the-variants.{Cnot, Phase, Unknown}
 
@@ -65,6 +68,14 @@ gatesOf [] = []
 gatesOf (kind ∷ []) = []
 gatesOf (kind ∷ a ∷ []) = []
 gatesOf (kind ∷ a ∷ b ∷ bytes) = gate kind a b ∷ gatesOf bytes
+
+-- gate i of a list of bytes
+abbrev pub byteGate : List ℕ → ℕ → Gate
+byteGate bytes i = gate (getD bytes (gateBytes * i) 0) (getD bytes (gateBytes * i + 1) 0) (getD bytes (gateBytes * i + 2) 0)
+
+-- the code's three bytes are a gate
+abbrev pub gateOf : GateBytes → Gate
+gateOf t = gate (t .kind) (t .a) (t .b)
 
 -- the bytes of a list of gates
 unfoldable pub bytesOf : List Gate → List ℕ

@@ -3,9 +3,10 @@
 ghost use mathlib.Core.Path.{_≡_};
 ghost use Rattle.circuit.specs.Gate.{gate, gatesOf};
 ghost use Rattle.circuit.specs.Faults.{wiresFault, listFault, lentFault, shortFault, orElse, listReply};
-ghost use Rattle.circuit.specs.Faults.{cnotFault, phaseFault, gateFault, firstFault};
+ghost use Rattle.circuit.specs.Faults.{cnotFault, oneWireFault, gateFault, firstFault};
 use crate::Reply;
 use crate::gates::Kind;
+use crate::gates::gate_at;
 use crate::gates::kind_of;
 use crate::limits::GATE_BYTES;
 use crate::limits::MAX_LIST_BYTES;
@@ -58,17 +59,17 @@ pub fn list_fault(bytes: usize) -> u8
 }
 
 // Fault 8: a lent output has another length than it must have.
-pub fn lent_fault(bytes: usize, wanted: usize) -> u8
-    ensures { λ r. ⌜ r ≡ lentFault bytes wanted ⌝ }
+pub fn lent_fault(long: usize, wanted: usize) -> u8
+    ensures { λ r. ⌜ r ≡ lentFault long wanted ⌝ }
 {
-    if bytes == wanted { 0 } else { LENT_OUTPUT }
+    if long == wanted { 0 } else { LENT_OUTPUT }
 }
 
 // Fault 8: a lent output has less room than it must have.
-pub fn short_fault(bytes: usize, wanted: usize) -> u8
-    ensures { λ r. ⌜ r ≡ shortFault bytes wanted ⌝ }
+pub fn short_fault(long: usize, wanted: usize) -> u8
+    ensures { λ r. ⌜ r ≡ shortFault long wanted ⌝ }
 {
-    if wanted <= bytes { 0 } else { LENT_OUTPUT }
+    if wanted <= long { 0 } else { LENT_OUTPUT }
 }
 
 // The first of two faults, in the order of the checks.
@@ -99,12 +100,8 @@ fn first_fault(n: usize, gates: &[u8]) -> Reply
     let m = gates.len() / GATE_BYTES;
     let mut i: usize = 0;
     while i < m {
-        let fault = gate_fault(
-            n,
-            gates[GATE_BYTES * i],
-            gates[GATE_BYTES * i + 1],
-            gates[GATE_BYTES * i + 2],
-        );
+        let g = gate_at(gates, i);
+        let fault = gate_fault(n, g.kind, g.a, g.b);
         if fault != 0 {
             return Reply::Refused {
                 number: fault,
@@ -123,7 +120,7 @@ fn gate_fault(n: usize, kind: u8, a: u8, b: u8) -> u8
     let said = kind_of(kind);
     match said {
         Kind::Cnot => cnot_fault(n, a, b),
-        Kind::Phase(_) => phase_fault(n, a, b),
+        Kind::Phase(_) => one_wire_fault(n, a, b),
         Kind::Unknown => GATE_KIND,
     }
 }
@@ -144,9 +141,9 @@ fn cnot_fault(n: usize, a: u8, b: u8) -> u8
     0
 }
 
-// A phase gate: a below n, and b zero.
-fn phase_fault(n: usize, a: u8, b: u8) -> u8
-    ensures { λ r. ⌜ r ≡ phaseFault n a b ⌝ }
+// A gate on one wire: a below n, and b zero.
+fn one_wire_fault(n: usize, a: u8, b: u8) -> u8
+    ensures { λ r. ⌜ r ≡ oneWireFault n a b ⌝ }
 {
     if n <= a as usize {
         return GATE_WIRE;

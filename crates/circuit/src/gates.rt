@@ -1,8 +1,12 @@
 // The kinds of gates, each once by name, and what a gate's kind byte says (document 01, "Gates and what they do"). Reading and judging
 // ask here.
 ghost use mathlib.Core.Path.{_≡_};
-ghost use Prim.Native.Nat.{_≤_};
-ghost use Rattle.circuit.specs.Gate.{T, T-dagger, kindOf};
+ghost use Prim.Native.Nat.{_*_, _+_, _<_, _≤_};
+ghost use lib.ListN.{length};
+ghost use Rattle.circuit.specs.Gate.{T, T-dagger, byteGate, gateOf, kindOf};
+ghost use Rattle.circuit.specs.Limits.{gateBytes};
+use crate::limits::GATE_BYTES;
+use crate::limits::Weight;
 
 pub const CNOT: u8 = 1;
 
@@ -16,10 +20,30 @@ pub const S_DAGGER: u8 = 5;
 
 pub const T_DAGGER: u8 = 6;
 
+// The three bytes of a gate.
+pub struct GateBytes {
+    pub kind: u8,
+    pub a: u8,
+    pub b: u8,
+}
+
+// Gate i of a list. Internal: the list has one.
+pub fn gate_at(gates: &[u8], i: usize) -> GateBytes
+    requires { ⌜ gateBytes * i + 2 < length (now gates) ⌝ }
+    ensures { λ r. ⌜ gateOf r ≡ byteGate (now (gates .entry)) i ⌝ }
+{
+    let j = GATE_BYTES * i;
+    GateBytes {
+        kind: gates[j],
+        a: gates[j + 1],
+        b: gates[j + 2],
+    }
+}
+
 // A CNOT; a phase gate, with what it adds in eighths of a turn; or no gate.
 pub enum Kind {
     Cnot,
-    Phase(u8),
+    Phase(Weight),
     Unknown,
 }
 
@@ -33,7 +57,7 @@ pub fn kind_of(kind: u8) -> Kind
     }
 }
 
-fn phase_of(kind: u8) -> u8
+fn phase_of(kind: u8) -> Weight
     requires { ⌜ (T ≤ kind) × (kind ≤ T-dagger) ⌝ }
     ensures { λ r. ⌜ Kind.Phase r ≡ kindOf kind ⌝ }
 {

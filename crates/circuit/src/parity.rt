@@ -2,7 +2,8 @@
 ghost use mathlib.Core.Logic.{_≢_};
 ghost use mathlib.Core.Path.{_≡_};
 ghost use Prim.Native.Nat.{_<_, _^_};
-ghost use lib.Count.{ones, trailingZeros};
+ghost use lib.Count.{ones};
+ghost use Rattle.gf2.specs.Parity.{lowest};
 ghost use Rattle.circuit.specs.Limits.{maxWires, parities};
 use crate::limits::Parity;
 
@@ -32,7 +33,7 @@ pub fn wires_of(p: Parity) -> u32
 // The lowest wire that p names.
 pub fn lowest(p: Parity) -> usize
     requires { ⌜ (p ≢ 0) × (p < parities) ⌝ }
-    ensures { λ r. ⌜ (r ≡ trailingZeros maxWires p) × (r < maxWires) ⌝ }
+    ensures { λ r. ⌜ (r ≡ lowest maxWires p) × (r < maxWires) ⌝ }
 {
     u64::trailing_zeros(p as u64) as usize
 }

@@ -1,27 +1,29 @@
 // Reading gates that have no fault into weights and rows (document 01, "Weights and rows").
 ghost use mathlib.Core.Path.{_≡_};
-ghost use Prim.Native.Nat.{_+_, _%_, _<_, _≤_};
+ghost use Prim.Native.Nat.{_<_, _≤_};
 ghost use Rattle.circuit.specs.Limits.{maxWires};
 ghost use Rattle.circuit.specs.Gate.{gatesOf};
-ghost use Rattle.circuit.specs.Read.{firstRow, firstRows};
+ghost use Rattle.gf2.specs.Table.{addAt};
+ghost use Rattle.circuit.specs.Read.{firstRow, firstRows, joinRows};
 ghost use Rattle.circuit.specs.Faults.{AllWellFormed};
-ghost use Rattle.circuit.specs.Entry.{readingOf, readBytes};
+ghost use Rattle.circuit.specs.Entry.{Addable, Joinable, readingOf, readBytes};
 use crate::cells::cell_at;
 use crate::cells::put_cell;
 use crate::gates::Kind;
+use crate::gates::gate_at;
 use crate::gates::kind_of;
 use crate::limits::GATE_BYTES;
+use crate::limits::MAX_WIRES;
 use crate::limits::Parity;
-use crate::limits::ROW_CELLS;
 use crate::limits::TABLE_BYTES;
 use crate::limits::Weight;
 use crate::parity::index_of;
 use crate::parity::unit;
 
-// The weights and rows as they are lent.
+// The weights and rows of a list, as the code keeps them.
 pub struct WeightsRows {
     pub weights: [Weight; TABLE_BYTES],
-    pub rows: [Parity; ROW_CELLS],
+    pub rows: [Parity; MAX_WIRES],
 }
 
 // The weights and rows of a list. Each gate changes them in place. Internal: the caller has found no fault.
@@ -34,24 +36,12 @@ pub fn read_gates(n: usize, gates: &[u8]) -> WeightsRows
     let m = gates.len() / GATE_BYTES;
     let mut g: usize = 0;
     while g < m {
-        let said = kind_of(gates[GATE_BYTES * g]);
-        let a = gates[GATE_BYTES * g + 1];
-        let b = gates[GATE_BYTES * g + 2];
+        let t = gate_at(gates, g);
+        let said = kind_of(t.kind);
         g += 1;
         match said {
-            // A CNOT XORs its control's parity into its target's.
-            Kind::Cnot => {
-                let i = wire_of(a);
-                let j = wire_of(b);
-                let p = cell_at(&rows, j) ^ cell_at(&rows, i);
-                put_cell(&mut rows, j, p);
-            }
-            // A gate's phase is added at the parity that its wire holds.
-            Kind::Phase(v) => {
-                let i = wire_of(a);
-                let q = index_of(cell_at(&rows, i));
-                weights[q] = add_phase(weights[q], v);
-            }
+            Kind::Cnot => join_rows(&mut rows, t.a, t.b),
+            Kind::Phase(v) => add_phase(&mut weights, cell_at(&rows, wire_of(t.a)), v),
             Kind::Unknown => {}
         }
     }
@@ -62,11 +52,11 @@ pub fn read_gates(n: usize, gates: &[u8]) -> WeightsRows
 }
 
 // Wire i starts with parity 2^i.
-fn first_rows(n: usize) -> [Parity; ROW_CELLS]
+fn first_rows(n: usize) -> [Parity; MAX_WIRES]
     ensures { λ r. ⌜ r ≡ firstRows maxWires n ⌝ }
 {
-    let mut rows = [0 as Parity; ROW_CELLS];
-    for i in 0..ROW_CELLS {
+    let mut rows = [0 as Parity; MAX_WIRES];
+    for i in 0..MAX_WIRES {
         put_cell(&mut rows, i, first_row(n, i));
     }
     rows
@@ -79,12 +69,24 @@ fn first_row(n: usize, i: usize) -> Parity
     if i < n { unit(i) } else { 0 }
 }
 
-// A gate's phase is added, modulo 8.
-fn add_phase(w: Weight, v: u8) -> Weight
-    requires { ⌜ (w < 8) × (v < 8) ⌝ }
-    ensures { λ r. ⌜ r ≡ (w + v) % 8 ⌝ }
+// A CNOT XORs its control's parity into its target's.
+fn join_rows(rows: &mut [Parity], a: u8, b: u8)
+    requires { ⌜ Joinable (now rows) a b ⌝ }
+    ensures { λ _. ⌜ now (rows .exit) ≡ joinRows a b (now (rows .entry)) ⌝ }
 {
-    (w + v) % 8
+    let i = wire_of(a);
+    let j = wire_of(b);
+    let p = cell_at(rows, j) ^ cell_at(rows, i);
+    put_cell(rows, j, p);
+}
+
+// A gate's phase is added, modulo 8, at the parity that its wire holds.
+fn add_phase(weights: &mut [Weight; TABLE_BYTES], p: Parity, v: Weight)
+    requires { ⌜ Addable (now weights) p v ⌝ }
+    ensures { λ _. ⌜ now (weights .exit) ≡ addAt 8 (now (weights .entry)) p v ⌝ }
+{
+    let q = index_of(p);
+    weights[q] = (weights[q] + v) % 8;
 }
 
 // A wire's number in a gate, as a place among the rows.

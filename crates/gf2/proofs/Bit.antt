@@ -31,7 +31,7 @@ pub bit-of-zero : (i : ℕ) → bit 0 i ≡ 0
 unfolding bit
 bit-of-zero i = rw zero-div
 
--- ---- L1
+-- ---- xor, bit by bit
 pub bit-xor : (a b i : ℕ) → bit (bitXor a b) i ≡ (bit a i + bit b i) % 2
 unfolding bit
 bit-xor a b i = rw (xor-shr a b i) (omega (arith, xor-add-and (a / 2 ^ i) (b / 2 ^ i)))

@@ -64,7 +64,7 @@ bit-lowest (suc k) p ne l = go (p % 2) refl (omega arith) (bit-lowest k (p / 2))
     go (suc (suc c)) e h r = absurd (omega arith)
 
 -- of n bits, counted in a word of w
-pub lowest : (w n p : ℕ) → n ≤ w → p ≢ 0 → p < 2 ^ n → (trailingZeros w p < n) × (bit p (trailingZeros w p) ≡ 1)
-lowest w n p h ne l =
+pub lowest-set : (w n p : ℕ) → n ≤ w → p ≢ 0 → p < 2 ^ n → (trailingZeros w p < n) × (bit p (trailingZeros w p) ≡ 1)
+lowest-set w n p h ne l =
     let e : bit p (trailingZeros w p) ≡ 1 = bit-lowest w p ne (lt-of-lt-of-le l (pow-mono h)) in
     (bit-inside n p (trailingZeros w p) l e, e)

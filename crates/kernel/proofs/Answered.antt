@@ -7,15 +7,15 @@ use Prim.Native.Nat.{_<_, ℕ}
 use native.Mathlib.Nat.{le-refl}
 use native.Mathlib.Omega.{arith}
 use lib.Bits.{bitXor, xor-comm, xor-lt}
-use lib.Count.{trailingZeros}
 use lib.ListN.{getD, length}
 use Rattle.circuit.specs.Limits.{maxMembers, maxWires, parities, productBits}
 use Rattle.gf2.proofs.Basis.{basis-same}
-use Rattle.gf2.proofs.Leading.{lowest}
+use Rattle.gf2.proofs.Leading.{lowest-set}
 use Rattle.gf2.proofs.Pairing.{xor-equal}
 use Rattle.gf2.proofs.Table.{getD-tabulate}
 use Rattle.gf2.specs.Bit.{bit}
 use Rattle.gf2.specs.Echelon.{Basis, Reached, Stopped}
+use Rattle.gf2.specs.Parity.{lowest}
 use Rattle.moves.proofs.Finding.{found, none, others-swap}
 use Rattle.moves.proofs.Keep.{member-lt}
 use Rattle.moves.proofs.Sets.{in-occ, occ, occ-in}
@@ -90,14 +90,14 @@ pair-below {ys} {a} {b} p = (in-below ys (p .members) a (p .a-in), in-below ys (
 pub pair-z : {ys : List ℕ} {a b : ℕ} → Pair ys a b → (bitXor a b ≢ 0) × (bitXor a b < parities)
 pair-z {a} {b} p = let l = pair-below p in (λ e. p .apart (xor-equal a b e), xor-lt maxWires a b (l .0) (l .1))
 
-module _ {ys : List ℕ} {a b t : ℕ} (p : Pair ys a b) (low : t ≡ trailingZeros maxWires (bitXor a b)) {vec mask member : List ℕ}
+module _ {ys : List ℕ} {a b t : ℕ} (p : Pair ys a b) (low : t ≡ lowest maxWires (bitXor a b)) {vec mask member : List ℕ}
     (built : Built (length ys) ys a b (bitXor a b) t vec mask member) where
   -- the wire that code takes is one of z
   wire : (t < maxWires) × (bit (bitXor a b) t ≡ 1)
   wire =
       let z = pair-z p in
       subst (λ (x : ℕ). (x < maxWires) × (bit (bitXor a b) x ≡ 1)) (sym low)
-      (lowest maxWires maxWires (bitXor a b) (le-refl _) (z .0) (z .1))
+      (lowest-set maxWires maxWires (bitXor a b) (le-refl _) (z .0) (z .1))
 
   a-member : Member (marksOf ys) a
   a-member = in-member ys (p .members) a (p .a-in)

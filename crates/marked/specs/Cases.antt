@@ -5,7 +5,7 @@ use Prim.Native.Nat.{_-_, _<_, suc, zero, ℕ}
 use lib.ListN.{length, replicate, set}
 use Rattle.circuit.specs.Faults.{firstFault, sameWire}
 use Rattle.circuit.specs.Gate.{CNOT, Gate, T, T-dagger, gate, tGates}
-use Rattle.circuit.specs.Limits.{maxMembers, maxWires, rowCells}
+use Rattle.circuit.specs.Limits.{maxMembers, maxWires}
 use Rattle.circuit.specs.OddSet.{members, oddSet}
 use Rattle.circuit.specs.Read.{noWeights, read}
 use Rattle.circuit.specs.Sound.{SoundRows}
@@ -38,7 +38,7 @@ weightsWith (at p w ∷ es) = set (weightsWith es) p w
 
 -- rows that go on with 0
 unfoldable pub rowsWith : List ℕ → List ℕ
-rowsWith rows = rows ++ replicate (rowCells - length rows) 0
+rowsWith rows = rows ++ replicate (maxWires - length rows) 0
 
 -- every l, every q and every c
 pub record AllCoefficients (n : ℕ) (w : List ℕ) (a b d : ℕ) : Type 0 where

@@ -7,15 +7,15 @@ use Prim.Native.Nat.{_*_, _+_, _/_, _<_, _^_, _≤_, ℕ}
 use native.Mathlib.Nat.{le-refl}
 use native.Mathlib.Omega.{arith}
 use lib.Bits.{bitXor}
-use lib.Count.{trailingZeros}
 use lib.Dec.{T}
 use lib.ListN.{length}
 use lib.Pow.{pow-mono}
 use Rattle.circuit.specs.Limits.{maxMembers, maxWires, parities, productBits}
 use Rattle.circuit.specs.OddSet.{members}
 use Rattle.circuit.specs.Sound.{SoundMarks}
-use Rattle.gf2.proofs.Leading.{lowest}
+use Rattle.gf2.proofs.Leading.{lowest-set}
 use Rattle.gf2.specs.Bit.{bit}
+use Rattle.gf2.specs.Parity.{lowest}
 use Rattle.gf2.specs.Over.{Below, xorAll}
 use Rattle.phase.specs.Signature.{SameSignature}
 use Rattle.moves.proofs.Bound.{bound}
@@ -82,9 +82,9 @@ module _ (size n most : ℕ) (room : 2 ^ n ≤ size) (marks : List ℕ) (sound :
   pair-exact a b t ma mb l h = offer-iff size n most room marks sound a b t ma mb l h
 
   -- no pair reaches: no z and Y make a legal move
-  pub none-exact : ((a b : ℕ) → Member marks a → Member marks b → a ≢ b → Reach most n (trailingZeros n (bitXor a b)) marks a b → ⊥)
+  pub none-exact : ((a b : ℕ) → Member marks a → Member marks b → a ≢ b → Reach most n (lowest n (bitXor a b)) marks a b → ⊥)
       → NoneLegal most n marks
-  none-exact = none-reached size n most room marks sound (trailingZeros n) (λ z ne l. lowest n n z (le-refl _) ne l)
+  none-exact = none-reached size n most room marks sound (lowest n) (λ z ne l. lowest-set n n z (le-refl _) ne l)
 
 -- the xor of Y is 0 and every triple condition holds, exactly where one xor is 0
 pub one-xor : (n z t : ℕ) → t < n → bit z t ≡ 1 → (Y : List ℕ) → Below (2 ^ n) Y → Balanced n z Y ↔ (xorAll (map (kappa n z t) Y) ≡ 0)

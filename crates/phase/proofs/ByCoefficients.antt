@@ -1,4 +1,4 @@
--- B: the phase by l, q and c. Equal coefficients give equal phases.
+-- The phase by l, q and c. Equal coefficients give equal phases.
 use mathlib.Core.List.{List}
 use mathlib.Core.Path.{ap, refl, sym, _∙_, _≡_}
 use Prim.Native.Nat.{_%_, _*_, _+_, _-_, _/_, _<_, suc, zero, ℕ}
@@ -65,7 +65,7 @@ module _ (w : List ℕ) (n x : ℕ) where
   unfolding phaseAt weightedSum firstMoment secondMoment thirdMoment parities
   by-sums = parities-by-moments (length w) (λ p. getD w p 0) n x
 
--- the phaseAt by l, q and c, at every x
+-- the phase by l, q and c, at every x
 pub phase-by-coefficients : (n : ℕ) (w : List ℕ) (x : ℕ) → phaseAt n w x ≡ byCoefficients n w x
 unfolding byCoefficients
 phase-by-coefficients n w x =

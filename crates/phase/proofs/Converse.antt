@@ -7,6 +7,7 @@ use native.Mathlib.Nat.{mod-add-mod}
 use native.Mathlib.Omega.{arith}
 use lib.Bits.{bitXor}
 use lib.ListN.{getD, length}
+use lib.Pow.{pow-lt}
 use Rattle.circuit.specs.Says.{phaseAt}
 use Rattle.gf2.proofs.Bit.{bit-lt}
 use Rattle.gf2.proofs.Brute.{brute2, brute3}
@@ -19,7 +20,7 @@ use Rattle.gf2.specs.Parity.{parity}
 use Rattle.gf2.specs.Table.{weightedSum}
 use Rattle.phase.proofs.ByCoefficients.{same-phases}
 use Rattle.phase.proofs.Sums.{C, L, Q}
-use Rattle.phase.proofs.Wires.{one-lt, three-is-xor, three-lt, two-is-xor, two-lt}
+use Rattle.phase.proofs.Wires.{three-is-xor, three-lt, two-is-xor, two-lt}
 use Rattle.phase.specs.Coefficients.{SameAtThree, SameCoefficients, SamePhases, c, l, q}
 
 parity-one : (n i p : ℕ) → i < n → parity n p (2 ^ i) ≡ bit p i
@@ -165,7 +166,7 @@ module _ (n : ℕ) (v w : List ℕ) (same : SameAtThree n v w) where
 pub same-at-three : (n : ℕ) (v w : List ℕ) → SamePhases n v w → SameAtThree n v w
 same-at-three n v w same =
     record {
-      at-one = λ i h. same (2 ^ i) (one-lt n i h);
+      at-one = λ i h. same (2 ^ i) (pow-lt h);
       at-two = λ i j h k. same (2 ^ i + 2 ^ j) (two-lt n i j h k);
       at-three =
           λ i j k h g f. same (2 ^ i + 2 ^ j + 2 ^ k) (three-lt n i j k h g f);

@@ -1,4 +1,4 @@
--- C, existence: the new weights are sound, their odd set is the marks, and their coefficients are those of w.
+-- The new weights are sound, their odd set is the marks, and their coefficients are those of w.
 use mathlib.Core.List.{List}
 use mathlib.Core.Logic.{_⊎_}
 use mathlib.Core.Path.{ap, sym, _∙_, _≡_}

@@ -11,13 +11,14 @@ use Rattle.gf2.proofs.Modular.{cong-by}
 use Rattle.gf2.proofs.Sum.{sum-ext, sum-mod, sum-zero}
 use Rattle.gf2.proofs.Table.{weightedSum-ext}
 use Rattle.gf2.specs.Bit.{bit}
+use Rattle.gf2.specs.Parity.{lowest}
 use Rattle.gf2.specs.Sum.{sum}
 use Rattle.phase.proofs.ByCoefficients.{minus4}
 use Rattle.phase.proofs.Sums.{L, Q, SameSums}
 use Rattle.phase.proofs.WireSums.{apart-other, apart-same, few-zero}
 use Rattle.phase.proofs.Wires.{is-one, is-two, low-one, low-two, next-two, ones-one, ones-two}
 use Rattle.phase.specs.Coefficients.{l, q}
-use Rattle.phase.specs.NewWeights.{apart, byWires, low, next, oneRest, pairRest, rest}
+use Rattle.phase.specs.NewWeights.{apart, byWires, next, oneRest, pairRest, rest}
 
 -- the difference of q, by the plain sums x of w and y of u
 quarter : (x y : ℕ) → ((4 - x % 4) % 4 + 3 * ((4 - y % 4) % 4)) % 4 ≡ (3 * x + y) % 4
@@ -55,7 +56,7 @@ module _ (w u : List ℕ) where
     unfolding rest byWires
     rest-others p a b = go (ones p) a b
       where
-        go : (o : ℕ) → o ≢ 1 → o ≢ 2 → byWires o (oneRest n w u (low n p)) (pairRest w u (low n p) (next n p)) ≡ 0
+        go : (o : ℕ) → o ≢ 1 → o ≢ 2 → byWires o (oneRest n w u (lowest n p)) (pairRest w u (lowest n p) (next n p)) ≡ 0
         go zero a b = refl
         go (suc zero) a b = absurd (a refl)
         go (suc (suc zero)) a b = absurd (b refl)
@@ -63,13 +64,13 @@ module _ (w u : List ℕ) where
 
     -- as code finds it: by count_ones, and trailing_zeros at a width of k bits
     pub rest-at-width : (k p : ℕ) → n ≤ k → p < 2 ^ n
-        → rest n w u p ≡ byWires (ones p) (oneRest n w u (low k p)) (pairRest w u (low k p) (next k p))
+        → rest n w u p ≡ byWires (ones p) (oneRest n w u (lowest k p)) (pairRest w u (lowest k p) (next k p))
     unfolding rest byWires
     rest-at-width k p h g = go (ones p) refl
       where
         go : (o : ℕ) → ones p ≡ o
-            → byWires o (oneRest n w u (low n p)) (pairRest w u (low n p) (next n p))
-            ≡ byWires o (oneRest n w u (low k p)) (pairRest w u (low k p) (next k p))
+            → byWires o (oneRest n w u (lowest n p)) (pairRest w u (lowest n p) (next n p))
+            ≡ byWires o (oneRest n w u (lowest k p)) (pairRest w u (lowest k p) (next k p))
         go zero e = refl
         go (suc zero) e = let t = is-one n p g e in rw (t .2, low-one n (t .0) (t .1), low-one k (t .0) (omega (arith, t .1)))
         go (suc (suc zero)) e =

@@ -1,4 +1,4 @@
--- C, uniqueness: sound weights of the shape "marks and an even rest" that have the phases of w are the new weights.
+-- Uniqueness: sound weights of the shape "marks and an even rest" that have the phases of w are the new weights.
 use mathlib.Core.List.{List}
 use mathlib.Core.Logic.{inl, inr, _≢_, _⊎_}
 use mathlib.Core.Path.{ap, sym, _∙_, _≡_}
@@ -7,6 +7,7 @@ use native.Mathlib.Decide.{decLt, ℕ-discrete}
 use native.Mathlib.Nat.{add-comm, mod-eq-of-lt}
 use native.Mathlib.Omega.{arith}
 use lib.Count.{ones, onesIn}
+use lib.Pow.{pow-lt}
 use Rattle.circuit.specs.Sound.{SoundWeights, weight}
 use Rattle.gf2.proofs.Modular.{cong-by}
 use Rattle.gf2.proofs.Sum.{sum-ext}
@@ -18,7 +19,7 @@ use Rattle.phase.proofs.NewWeights.{new-high, new-low, new-sound}
 use Rattle.phase.proofs.Rest.{pairRest-is, pairs-rest, rest-many, rest-one, rest-two, rest-zero}
 use Rattle.phase.proofs.Sums.{L, Q}
 use Rattle.phase.proofs.WireSums.{apart-same, few-zero}
-use Rattle.phase.proofs.Wires.{one-lt, ones-one, ones-two, two-lt}
+use Rattle.phase.proofs.Wires.{ones-one, ones-two, two-lt}
 use Rattle.phase.specs.Coefficients.{SameAtThree, SamePhases, l}
 use Rattle.phase.specs.NewWeights.{MarksAndRest, apart, newWeights, oneRest, pairRest, rest}
 
@@ -83,7 +84,7 @@ module _ (size n : ℕ) (room : 2 ^ n ≤ size) (w marks v : List ℕ) (sm : Sou
   unfolding oneRest l
   added-one i h =
       solve-l (L v i) (L marks i) (L w i) (shape .added (2 ^ i)) (sum n (λ j. apart i j * pairRest w marks i j))
-      (shape .on-one (2 ^ i) (one-lt n i h) (ones-one i) .0)
+      (shape .on-one (2 ^ i) (pow-lt h) (ones-one i) .0)
       (added-l n v marks (shape .added) wv wm (shape .is) few i h ∙ rw (pairs-same i h)) (back-l n v w at-three i h)
       ∙ sym (rest-one w marks n i h)
 

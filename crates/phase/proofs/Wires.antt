@@ -8,15 +8,13 @@ use native.Mathlib.Nat.{add-comm, add-zero, one-mul}
 use native.Mathlib.Omega.{arith}
 use lib.Bits.{bitXor, xor-comm, xor-shifted}
 use lib.Count.{ones, ones-cat, ones-step, onesIn, trailingZeros}
-use lib.Pow.{pow-mono, pow-pos}
+use lib.Pow.{pow-lt, pow-mono, pow-pos}
 use Rattle.gf2.proofs.Bit.{bit-pow-other, bit-pow-same, bit-xor}
 use Rattle.gf2.specs.Bit.{bit}
-
-pub one-lt : (n i : ℕ) → i < n → 2 ^ i < 2 ^ n
-one-lt n i h = omega (arith, pow-mono {i = suc i} {j = n} h, pow-pos i)
+use Rattle.gf2.specs.Parity.{lowest}
 
 pub two-lt : (n i j : ℕ) → i < j → j < n → 2 ^ i + 2 ^ j < 2 ^ n
-two-lt n i j h k = omega (arith, one-lt j i h, pow-mono {i = suc j} {j = n} k)
+two-lt n i j h k = omega (arith, pow-lt h, pow-mono {i = suc j} {j = n} k)
 
 pub three-lt : (n i j k : ℕ) → i < j → j < k → k < n → 2 ^ i + 2 ^ j + 2 ^ k < 2 ^ n
 three-lt n i j k h g f = omega (arith, two-lt k i j h g, pow-mono {i = suc k} {j = n} f)
@@ -30,7 +28,7 @@ unfolding ones onesIn
 ones-one i = ap ones (sym (add-zero (2 ^ i))) ∙ ones-top i 0 (pow-pos i)
 
 pub ones-two : (i j : ℕ) → i < j → ones (2 ^ i + 2 ^ j) ≡ 2
-ones-two i j h = ap ones (add-comm (2 ^ i) (2 ^ j)) ∙ ones-top j (2 ^ i) (one-lt j i h) ∙ ap suc (ones-one i)
+ones-two i j h = ap ones (add-comm (2 ^ i) (2 ^ j)) ∙ ones-top j (2 ^ i) (pow-lt h) ∙ ap suc (ones-one i)
 
 pub ones-none : (n p : ℕ) → p < 2 ^ n → ones p ≡ 0 → p ≡ 0
 ones-none zero p h e = omega arith
@@ -66,7 +64,7 @@ is-two (suc n) p h e = go (decLt p (2 ^ n)) (λ g. is-two n p g e)
         let s = is-one n (p - 2 ^ n) (t .0) o in
         (s .0, n, s .1, omega arith, omega (arith, s .2, t .1))
 
-pub low-one : (k i : ℕ) → i < k → trailingZeros k (2 ^ i) ≡ i
+pub low-one : (k i : ℕ) → i < k → lowest k (2 ^ i) ≡ i
 unfolding trailingZeros
 low-one zero i h = absurd (omega arith)
 low-one (suc k) zero h = refl
@@ -75,7 +73,7 @@ low-one (suc k) (suc i) h =
     let f : 2 ^ suc i / 2 ≡ 2 ^ i = omega arith in
     rw (e, f) (ap suc (low-one k i (omega arith)))
 
-pub low-two : (k i j : ℕ) → i < j → i < k → trailingZeros k (2 ^ i + 2 ^ j) ≡ i
+pub low-two : (k i j : ℕ) → i < j → i < k → lowest k (2 ^ i + 2 ^ j) ≡ i
 unfolding trailingZeros
 low-two zero i j g h = absurd (omega arith)
 low-two (suc k) i zero g h = absurd (omega arith)
@@ -85,12 +83,12 @@ low-two (suc k) (suc i) (suc j) g h =
     let f : (2 ^ suc i + 2 ^ suc j) / 2 ≡ 2 ^ i + 2 ^ j = omega arith in
     rw (e, f) (ap suc (low-two k i j (omega arith) (omega arith)))
 
-pub next-two : (k i j : ℕ) → i < j → j < k → trailingZeros k (2 ^ i + 2 ^ j - 2 ^ i) ≡ j
-next-two k i j g h = ap (λ (x : ℕ). trailingZeros k x) (omega arith) ∙ low-one k j h
+pub next-two : (k i j : ℕ) → i < j → j < k → lowest k (2 ^ i + 2 ^ j - 2 ^ i) ≡ j
+next-two k i j g h = ap (lowest k) (omega arith) ∙ low-one k j h
 
 pub two-is-xor : (i j : ℕ) → i < j → bitXor (2 ^ i) (2 ^ j) ≡ 2 ^ i + 2 ^ j
 two-is-xor i j h =
-    xor-comm (2 ^ i) (2 ^ j) ∙ ap (λ (x : ℕ). bitXor x (2 ^ i)) (sym (one-mul (2 ^ j))) ∙ xor-shifted 1 j (2 ^ i) (one-lt j i h)
+    xor-comm (2 ^ i) (2 ^ j) ∙ ap (λ (x : ℕ). bitXor x (2 ^ i)) (sym (one-mul (2 ^ j))) ∙ xor-shifted 1 j (2 ^ i) (pow-lt h)
     ∙ omega arith
 
 pub three-is-xor : (i j k : ℕ) → i < j → j < k → bitXor (bitXor (2 ^ i) (2 ^ j)) (2 ^ k) ≡ 2 ^ i + 2 ^ j + 2 ^ k

@@ -3,9 +3,10 @@ use mathlib.Core.List.{_++_, List}
 use mathlib.Core.Logic.{_≢_, _⊎_}
 use mathlib.Core.Path.{_≡_}
 use Prim.Native.Nat.{_%_, _*_, _+_, _-_, _<_, _^_, suc, zero, ℕ}
-use lib.Count.{ones, trailingZeros}
+use lib.Count.{ones}
 use lib.ListN.{replicate}
 use Rattle.circuit.specs.Sound.{weight}
+use Rattle.gf2.specs.Parity.{lowest}
 use Rattle.gf2.specs.Sum.{delta, sum}
 use Rattle.gf2.specs.Table.{tabulate}
 use Rattle.phase.specs.Coefficients.{l, q}
@@ -29,16 +30,13 @@ byWires (suc zero) one two = one
 byWires (suc (suc zero)) one two = two
 byWires (suc (suc (suc m))) one two = 0
 
--- the lowest wire of p, and the next one
-abbrev pub low : ℕ → ℕ → ℕ
-low n p = trailingZeros n p
-
+-- the wire after the lowest one of p
 abbrev pub next : ℕ → ℕ → ℕ
-next n p = trailingZeros n (p - 2 ^ trailingZeros n p)
+next n p = lowest n (p - 2 ^ lowest n p)
 
 -- the even rest on p
 unfoldable pub rest : ℕ → List ℕ → List ℕ → ℕ → ℕ
-rest n w u p = byWires (ones p) (oneRest n w u (low n p)) (pairRest w u (low n p) (next n p))
+rest n w u p = byWires (ones p) (oneRest n w u (lowest n p)) (pairRest w u (lowest n p) (next n p))
 
 -- f on the parities of n wires, and 0 from 2 ^ n up
 unfoldable pub pad : ℕ → ℕ → (ℕ → ℕ) → List ℕ

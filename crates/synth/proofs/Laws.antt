@@ -33,7 +33,7 @@ use Rattle.synth.specs.declared.Written.the-variants.{Done, Refused}
 
 -- there is such a list, of at most n * 2^n + n * n gates, in which each weight is spelled as document 01 says: the fields of Wrote
 pub sound-is-written : (N n : ℕ) → n ≤ N → (w rows : List ℕ) → SoundWeights (2 ^ N) n w → SoundRows N n rows
-    → (gs : List Gate) × Wrote N n w rows gs
+    → (gs : List Gate) × Wrote N n (readingLent w rows) gs
 sound-is-written N n fit w rows sw sr = (writeList N n w rows, list-written N n fit w rows sw sr)
 
 -- where the gates at each parity are its weight's spelling, the gates of each kind are counted: for any accepted list, read from the start

@@ -1,4 +1,3 @@
-pub mod GateBytes
 pub mod Stores
 pub mod BitTests
 pub mod Lists

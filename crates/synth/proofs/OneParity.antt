@@ -19,6 +19,7 @@ use Rattle.gf2.proofs.Leading.{bit-inside, bit-lowest}
 use Rattle.gf2.proofs.Sum.{sum-update}
 use Rattle.gf2.proofs.Xor.{xor-cancel}
 use Rattle.gf2.specs.Bit.{bit}
+use Rattle.gf2.specs.Parity.{lowest}
 use Rattle.gf2.specs.Selection.{combine}
 use Rattle.gf2.specs.Sum.{sum}
 use Rattle.gf2.specs.Table.{addAt}
@@ -26,7 +27,7 @@ use Rattle.synth.proofs.Cnots.{formed-cnots, kinds-cnots, length-cnots,
 use Rattle.synth.proofs.Lists.{formed-append, kinds-append}
 use Rattle.synth.proofs.Spelled.{formed-spell, kinds-away, kinds-here, length-spell, read-spell}
 use Rattle.synth.specs.Spelling.{kindsAt, spelling}
-use Rattle.synth.specs.Writing.{around, cnots, lowest, others, spell, writeParity}
+use Rattle.synth.specs.Writing.{around, cnots, others, spell, writeParity}
 
 -- wire t comes to hold p by CNOTs from the wires of q
 record Brought (n q t p : ℕ) (r : Reading) : Type 0 where

@@ -11,7 +11,7 @@ use lib.Dec.{eqb}
 use lib.ListN.{getD, length, set}
 use Rattle.circuit.proofs.Filling.{put-filled, put-long}
 use Rattle.circuit.specs.Gate.{Gate}
-use Rattle.circuit.specs.Limits.{maxWires, rowCells}
+use Rattle.circuit.specs.Limits.{maxWires}
 use Rattle.circuit.specs.Read.{firstRows}
 use Rattle.gf2.proofs.Table.{Filled, filled-all}
 use Rattle.gf2.specs.Bit.{bit}
@@ -28,15 +28,15 @@ use Rattle.synth.specs.declared.masks.Step.{Step}
 
 -- the first i masks are recounted
 pub record Recounted (t q : ℕ) (masks s : List ℕ) (i : ℕ) : Type 0 where
-  pub inside : i ≤ rowCells
-  pub long : length s ≡ rowCells
+  pub inside : i ≤ maxWires
+  pub long : length s ≡ maxWires
   pub filled : Filled s (recount t q masks) i
 
-pub recount-first : {t q : ℕ} {masks : List ℕ} → length masks ≡ rowCells → Recounted t q masks masks 0
+pub recount-first : {t q : ℕ} {masks : List ℕ} → length masks ≡ maxWires → Recounted t q masks masks 0
 recount-first long = record { inside = omega arith; long = long; filled = λ k h. absurd (omega arith) }
 
 -- m is mask i, and x what the code adds to it
-pub recount-next : {t q : ℕ} {masks s s′ : List ℕ} {i m x : ℕ} → Recounted t q masks s i → i < rowCells
+pub recount-next : {t q : ℕ} {masks s s′ : List ℕ} {i m x : ℕ} → Recounted t q masks s i → i < maxWires
     → m ≡ getD masks i 0 → x ≡ bitOf (eqb (m / 2 ^ t % 2) 1) * q → s′ ≡ set s i (bitXor m x) → Recounted t q masks s′ (i + 1)
 recount-next {t} {q} {masks} {s} {s′} {i} {m} {x} h l em ex es =
     record {
@@ -48,7 +48,7 @@ recount-next {t} {q} {masks} {s} {s′} {i} {m} {x} h l em ex es =
     entry : bitXor m x ≡ getD (recount t q masks) i 0
     entry = rw (ex, bit-told m t, em) (sym (recount-at t q i masks))
 
-pub recount-last : {t q : ℕ} {masks s : List ℕ} {i : ℕ} → Recounted t q masks s i → length masks ≡ rowCells → rowCells ≤ i
+pub recount-last : {t q : ℕ} {masks s : List ℕ} {i : ℕ} → Recounted t q masks s i → length masks ≡ maxWires → maxWires ≤ i
     → s ≡ recount t q masks
 recount-last {t} {q} {masks} {s} {i} h long end =
     filled-all s (recount t q masks) i (simp length-recount (omega (arith, h .long))) (simp length-recount (omega arith)) (h .filled)

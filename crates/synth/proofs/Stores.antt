@@ -10,7 +10,7 @@ use Rattle.circuit.proofs.Placing.{sets-append, sets-placed, three-stored}
 use Rattle.circuit.specs.Gate.{Gate, bytesOf, gate}
 use Rattle.circuit.specs.Lent.{KeptFrom}
 use Rattle.circuit.specs.Limits.{gateBytes}
-use Rattle.synth.proofs.GateBytes.{bytes-append, length-bytes}
+use Rattle.circuit.proofs.Bytes.{bytes-append, length-bytes}
 use Rattle.synth.specs.Storing.{Room, Stored}
 
 pub stored-none : (g : List ℕ) (k : ℕ) → Stored g g k k []

@@ -79,6 +79,6 @@ module _ (N n : ℕ) (fit : n ≤ N) (w rows : List ℕ) (sw : SoundWeights (2 ^
       (λ p l. occurs-odd (weight w p) (sw .small p) ∙ sym (odd-mark w p))
       ∙ ap (λ (k : ℕ). sum k (λ p. getD (oddSet w) p 0)) (sym (length-odd w))
 
-  pub list-written : Wrote N n w rows (writeList N n w rows)
+  pub list-written : Wrote N n (readingLent w rows) (writeList N n w rows)
   unfolding gs
   list-written = record { formed = formed; reads = reads; short = short; spelled = spelled; kinds = kinds; t-gates = t-gates }

@@ -11,10 +11,10 @@ use Rattle.circuit.proofs.Judging.{or-first, or-pass, or-second, or-well, short
 use Rattle.circuit.proofs.TableRule.{call-passes, passes-call, weights-sound}
 use Rattle.circuit.specs.Faults.{Accepted, orElse, shortFault}
 use Rattle.circuit.specs.Gate.{Gate, bytesOf, gatesOf}
-use Rattle.circuit.specs.Lent.{frontGates}
+use Rattle.circuit.specs.Lent.{frontGates, readingLent}
 use Rattle.circuit.specs.Limits.{gateBytes, maxWires, maxWrittenGates, parities, rowCells, writeBytes, writtenGates}
 use Rattle.circuit.specs.TableFaults.{callFault, weightsFault}
-use Rattle.synth.proofs.GateBytes.{gates-of-bytes, length-bytes}
+use Rattle.circuit.proofs.Bytes.{gates-of-bytes, length-bytes}
 use Rattle.synth.proofs.RowRule.{rows-sound}
 use Rattle.synth.proofs.Stores.{room-first, room-then, stored-front, stored-kept, stored-then}
 use Rattle.synth.proofs.WriteBack.{list-written}
@@ -99,7 +99,7 @@ module _ (g : List ℕ) {n : ℕ} {w rows : List ℕ} (ready : Writable n w rows
   abbrev phases : List Gate
   phases = writePhases maxWires n w (2 ^ n)
 
-  wrote : Wrote maxWires n w rows (phases ++ writeRows n rows)
+  wrote : Wrote maxWires n (readingLent w rows) (phases ++ writeRows n rows)
   wrote = list-written maxWires n (ready .few) w rows (ready .weights-sound) (ready .rows-sound)
 
   room : Room g 0 (phases ++ writeRows n rows)
@@ -118,7 +118,7 @@ module _ (g : List ℕ) {n : ℕ} {w rows : List ℕ} (ready : Writable n w rows
         record {
           counted = omega (arith, all .count, ap length front);
           accepted = accepted;
-          list = subst (λ (hs : List Gate). Wrote maxWires n w rows hs) (sym front) wrote;
+          list = subst (λ (hs : List Gate). Wrote maxWires n (readingLent w rows) hs) (sym front) wrote;
           kept = stored-kept all room;
         }
       where

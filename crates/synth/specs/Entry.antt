@@ -9,7 +9,7 @@ use Rattle.circuit.specs.Gate.{Gate, kindOf, tGates}
 use Rattle.circuit.specs.Lent.{KeptFrom, frontGates, readingLent}
 use Rattle.circuit.specs.Limits.{gateBytes, maxWires, writtenGates}
 use Rattle.circuit.specs.OddSet.{members, oddSet}
-use Rattle.circuit.specs.Read.{read, start}
+use Rattle.circuit.specs.Read.{Reading, read, start}
 use Rattle.circuit.specs.Sound.{weight}
 use Rattle.circuit.specs.declared.gates.Kind.the-variants.{Phase}
 use Rattle.synth.specs.Faults.{writeFault}
@@ -39,20 +39,20 @@ writeReply (suc fault) count = Refused (suc fault) 0
 
 -- ---- the list
 
--- a list of gates written for weights and rows on n wires, of N at most
-pub record Wrote (N n : ℕ) (weights rows : List ℕ) (gs : List Gate) : Type 0 where
+-- a list of gates written for the reading r on n wires, of N at most
+pub record Wrote (N n : ℕ) (r : Reading) (gs : List Gate) : Type 0 where
   -- no gate has a fault
   pub formed : AllWellFormed n gs
   -- reading it gives exactly these weights and rows
-  pub reads : read N n gs ≡ readingLent weights rows
+  pub reads : read N n gs ≡ r
   -- at most n * 2^n gates for the weights and n * n for the rows
   pub short : length gs ≤ writtenGates n
   -- the gates that add their phase at p are, in order, those that spell p's weight
-  pub spelled : (p : ℕ) → kindsAt p gs (start N n) ≡ spelling (weight weights p)
+  pub spelled : (p : ℕ) → kindsAt p gs (start N n) ≡ spelling (weight (r .weights) p)
   -- so there are as many gates of each kind of phase gate as the spellings of all weights have
-  pub kinds : (kind v : ℕ) → kindOf kind ≡ Phase v → gatesOfKind kind gs ≡ spelledGates kind weights
+  pub kinds : (kind v : ℕ) → kindOf kind ≡ Phase v → gatesOfKind kind gs ≡ spelledGates kind (r .weights)
   -- and as many T and T dagger gates as the odd set has members
-  pub t-gates : tGates gs ≡ members (oddSet weights)
+  pub t-gates : tGates gs ≡ members (oddSet (r .weights))
 
 -- ---- the lent gates
 
@@ -61,7 +61,7 @@ pub record WroteBytes (n : ℕ) (weights rows gates gates′ : List ℕ) (count 
   pub counted : count ≡ length (frontGates count gates′)
   -- none of faults 1 to 5
   pub accepted : Accepted n (take (gateBytes * count) gates′)
-  pub list : Wrote maxWires n weights rows (frontGates count gates′)
+  pub list : Wrote maxWires n (readingLent weights rows) (frontGates count gates′)
   -- every byte after the last gate is as it was
   pub kept : KeptFrom (gateBytes * count) gates gates′
 

@@ -4,9 +4,9 @@ use mathlib.Core.Bool.{Bool}
 use mathlib.Core.List.{_++_, List, [], _∷_, map}
 use Prim.Native.Nat.{_*_, _-_, _^_, suc, zero, ℕ}
 use lib.Bits.{bitXor}
-use lib.Count.{trailingZeros}
 use lib.ListN.{getD}
 use Rattle.gf2.specs.Bit.{bit}
+use Rattle.gf2.specs.Parity.{lowest}
 use Rattle.circuit.specs.Gate.{CNOT, Gate, gate}
 use Rattle.circuit.specs.Read.{either}
 use Rattle.circuit.specs.Sound.{weight}
@@ -36,10 +36,7 @@ spell v t = map (λ kind. gate kind t 0) (spelling v)
 unfoldable pub around : ℕ → ℕ → ℕ → ℕ → List Gate
 around n q t v = cnots n q t ++ (spell v t ++ cnots n q t)
 
--- the lowest wire of a parity of N bits, and its other wires
-abbrev pub lowest : ℕ → ℕ → ℕ
-lowest N p = trailingZeros N p
-
+-- the wires of a parity of N bits but the lowest
 abbrev pub others : ℕ → ℕ → ℕ
 others N p = bitXor p (2 ^ lowest N p)
 

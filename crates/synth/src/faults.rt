@@ -9,6 +9,7 @@ use crate::masks::row_step;
 use circuit::cells::cell_at;
 use circuit::faults::ROW_RULE;
 use circuit::faults::short_fault;
+use circuit::limits::MAX_WIRES;
 use circuit::limits::Parity;
 use circuit::limits::ROW_CELLS;
 use circuit::limits::WRITE_BYTES;
@@ -69,8 +70,8 @@ fn row_most(n: usize, i: usize) -> Parity
 }
 
 // Dependent rows: some mask, on the way to 2^i, has no pivot.
-fn cancel_fault(n: usize, rows: [Parity; ROW_CELLS]) -> u8
-    requires { ⌜ (n ≤ maxWires) × Shaped rowCells n rows ⌝ }
+fn cancel_fault(n: usize, rows: [Parity; MAX_WIRES]) -> u8
+    requires { ⌜ (n ≤ maxWires) × Shaped maxWires n rows ⌝ }
     ensures { λ r. ⌜ r ≡ cancelFault (2 ^ n - 1) rows ⌝ }
 {
     let mut masks = rows;

@@ -3,22 +3,22 @@
 ghost use mathlib.Core.Path.{_≡_};
 ghost use Prim.Native.Nat.{_*_, _<_, _≤_};
 ghost use lib.ListN.{length};
-ghost use Rattle.circuit.specs.Limits.{maxWires, rowCells};
+ghost use Rattle.circuit.specs.Limits.{maxWires};
 ghost use Rattle.synth.specs.Storing.{Stepped};
 ghost use Rattle.synth.specs.Writing.{bitOf, lack, pivot, recount};
 use circuit::cells::cell_at;
 use circuit::cells::put_cell;
 use circuit::copying::copy_parities;
+use circuit::limits::MAX_WIRES;
 use circuit::limits::Parity;
-use circuit::limits::ROW_CELLS;
 use circuit::parity::unit;
 
 // The masks start as the rows: the lent cells, as a value.
-pub fn copied(rows: &[Parity]) -> [Parity; ROW_CELLS]
-    requires { ⌜ length (now rows) ≡ rowCells ⌝ }
+pub fn copied(rows: &[Parity]) -> [Parity; MAX_WIRES]
+    requires { ⌜ length (now rows) ≡ maxWires ⌝ }
     ensures { λ r. ⌜ r ≡ now (rows .entry) ⌝ }
 {
-    let mut masks = [0 as Parity; ROW_CELLS];
+    let mut masks = [0 as Parity; MAX_WIRES];
     copy_parities(rows, &mut masks);
     masks
 }
@@ -27,12 +27,12 @@ pub fn copied(rows: &[Parity]) -> [Parity; ROW_CELLS]
 pub struct Step {
     pub lack: Parity,
     pub surplus: Parity,
-    pub masks: [Parity; ROW_CELLS],
+    pub masks: [Parity; MAX_WIRES],
 }
 
 // The row of wire r, with pivot b.
-pub fn row_step(masks: [Parity; ROW_CELLS], r: usize, b: usize) -> Step
-    requires { ⌜ (r < maxWires) × (b < maxWires) × (length masks ≡ rowCells) ⌝ }
+pub fn row_step(masks: [Parity; MAX_WIRES], r: usize, b: usize) -> Step
+    requires { ⌜ (r < maxWires) × (b < maxWires) × (length masks ≡ maxWires) ⌝ }
     ensures { λ s. ⌜ Stepped r b masks s ⌝ }
 {
     let q = lack_of(r, cell_at(&masks, r));
@@ -69,12 +69,12 @@ fn lack_of(r: usize, m: Parity) -> Parity
 }
 
 // The masks after CNOTs into wire t from the wires of q.
-fn recount_masks(masks: [Parity; ROW_CELLS], t: usize, q: Parity) -> [Parity; ROW_CELLS]
-    requires { ⌜ (t < maxWires) × (length masks ≡ rowCells) ⌝ }
+fn recount_masks(masks: [Parity; MAX_WIRES], t: usize, q: Parity) -> [Parity; MAX_WIRES]
+    requires { ⌜ (t < maxWires) × (length masks ≡ maxWires) ⌝ }
     ensures { λ r. ⌜ r ≡ recount t q masks ⌝ }
 {
     let mut s = masks;
-    for i in 0..ROW_CELLS {
+    for i in 0..MAX_WIRES {
         let m = cell_at(&masks, i);
         put_cell(&mut s, i, m ^ only_if((m >> t) % 2 == 1, q));
     }

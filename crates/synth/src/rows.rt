@@ -5,11 +5,11 @@ use crate::masks::pivot_of;
 use crate::masks::row_step;
 use crate::storing::push_cnots;
 use circuit::cells::cell_at;
+use circuit::limits::MAX_WIRES;
 use circuit::limits::Parity;
-use circuit::limits::ROW_CELLS;
 
 // The rows, after k gates.
-pub fn write_rows(gates: &mut [u8], k: usize, n: usize, rows: [Parity; ROW_CELLS]) -> usize
+pub fn write_rows(gates: &mut [u8], k: usize, n: usize, rows: [Parity; MAX_WIRES]) -> usize
     requires { ⌜ RowsReady (now gates) k n rows ⌝ }
     ensures { λ r. ⌜ Stored (now (gates .entry)) (now (gates .exit)) k r (writeRows n rows) ⌝ }
 {

@@ -1,14 +1,15 @@
 -- Writing in a row: what two calls write one after the other, and what stores leave.
 use mathlib.Core.List.{List, [], _∷_, _++_, append-assoc}
-use mathlib.Core.Path.{_∙_, _≡_, ap, refl, sym}
+use mathlib.Core.Path.{_∙_, _≡_, ap, refl, subst, sym}
 use Prim.Native.Nat.{_*_, _+_, _-_, _/_, _<_, _≤_, ℕ}
 use native.Mathlib.Numerals.{add-one}
 use native.Mathlib.Omega.{arith}
 use lib.ListN.{length, length-append, set, take}
 use lib.Seq.{length-sets, sets}
 use borrow.Rule.Slice.PartMut.{post-is, putMid}
-use Rattle.circuit.proofs.Bytes.{byteGate, gates-step, gates-tail, gatesFrom}
+use Rattle.circuit.proofs.Bytes.{gates-step, gates-tail, gatesFrom}
 use Rattle.circuit.proofs.Placing.{sets-append, sets-placed}
+use Rattle.circuit.specs.Gate.{Gate, byteGate}
 use Rattle.circuit.specs.Lent.{placed}
 use Rattle.circuit.specs.Limits.{gateBytes}
 use Rattle.text.specs.Limits.{gateLineBytes}
@@ -79,10 +80,12 @@ pub none-put : (gates was : List ℕ) (at : ℕ) → PutTo gates was was at at 0
 none-put gates was at = record { long = refl; on = omega arith; counted = refl; put = refl }
 
 module _ {gates was left : List ℕ} {at next i : ℕ} (p : PutTo gates was left at next i) where
-  pub gate-put : {left′ : List ℕ} {next′ : ℕ} → gateBytes * i + 2 < length gates → next + gateLineBytes ≤ length left
-      → Writes left next (gateLine (byteGate gates i)) left′ next′ → PutTo gates was left′ at next′ (i + 1)
-  gate-put {left′} {next′} h fits w =
+  -- g is gate i
+  pub gate-put : {left′ : List ℕ} {next′ : ℕ} {g : Gate} → gateBytes * i + 2 < length gates → next + gateLineBytes ≤ length left
+      → g ≡ byteGate gates i → Writes left next (gateLine g) left′ next′ → PutTo gates was left′ at next′ (i + 1)
+  gate-put {left′} {next′} {g} h fits is written =
       let line = gateLine (byteGate gates i) in
+      let w : Writes left next line left′ next′ = subst (λ (x : Gate). Writes left next (gateLine x) left′ next′) is written in
       record {
         long = writes-keeps left next line left′ next′ w fits ∙ p .long;
         on = omega (arith, w .onward, p .on);

@@ -14,6 +14,7 @@ use crate::hex::SPACE;
 use crate::hex::last_digit;
 use crate::limits::BYTE_VALUES;
 use circuit::copying::copy_bytes;
+use circuit::gates::gate_at;
 use circuit::limits::GATE_BYTES;
 
 // A fault: `refused `, the number in two digits, a space and the place in four.
@@ -63,13 +64,8 @@ pub fn put_gates(gates: &[u8], out: &mut [u8], at: usize) -> usize
     let mut next = at;
     let mut i: usize = 0;
     while i < m {
-        next = put_gate(
-            gates[GATE_BYTES * i],
-            gates[GATE_BYTES * i + 1],
-            gates[GATE_BYTES * i + 2],
-            out,
-            next,
-        );
+        let g = gate_at(gates, i);
+        next = put_gate(g.kind, g.a, g.b, out, next);
         i += 1;
     }
     next

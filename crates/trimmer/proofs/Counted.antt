@@ -7,16 +7,17 @@ use native.Mathlib.Numerals.{add-one}
 use lib.ListN.{getD, length}
 use Rattle.circuit.proofs.Bytes.{gates-step, gates-tail, gatesFrom}
 use Rattle.circuit.specs.Gate.{T, T-dagger, isT, tGates}
+use Rattle.circuit.specs.Limits.{gateBytes}
 use Rattle.circuit.specs.OddSet.{members}
 use Rattle.gf2.proofs.Sum.{delta-other, sum-suc}
 use Rattle.gf2.specs.Sum.{sum}
 
-pub t-next : (bytes : List ℕ) (i : ℕ) → 3 * i + 2 < length bytes
-    → tGates (gatesFrom bytes i) ≡ isT (getD bytes (3 * i) 0) + tGates (gatesFrom bytes (i + 1))
+pub t-next : (bytes : List ℕ) (i : ℕ) → gateBytes * i + 2 < length bytes
+    → tGates (gatesFrom bytes i) ≡ isT (getD bytes (gateBytes * i) 0) + tGates (gatesFrom bytes (i + 1))
 unfolding tGates
 t-next bytes i h = rw (gates-step bytes i h)
 
-pub t-end : (bytes : List ℕ) (i : ℕ) → i ≡ length bytes / 3 → tGates (gatesFrom bytes i) ≡ 0
+pub t-end : (bytes : List ℕ) (i : ℕ) → i ≡ length bytes / gateBytes → tGates (gatesFrom bytes i) ≡ 0
 unfolding tGates
 t-end bytes i e = rw (gates-tail bytes i e)
 

@@ -6,7 +6,7 @@ use lib.ListN.{length}
 use Rattle.circuit.proofs.Sound.{read-sound}
 use Rattle.circuit.specs.Entry.{readBytes}
 use Rattle.circuit.specs.Gate.{Gate, gatesOf, tGates}
-use Rattle.circuit.specs.Lent.{KeptFrom, frontGates, readingLent, rowsLent, weightsLent}
+use Rattle.circuit.specs.Lent.{KeptFrom, frontGates, readingLent}
 use Rattle.circuit.specs.Limits.{gateBytes, maxMembers, maxWires, moveCells, parities}
 use Rattle.circuit.specs.OddSet.{members, oddSet}
 use Rattle.circuit.specs.Read.{Reading, read}
@@ -119,7 +119,7 @@ module _ {n : ℕ} {bytes out log w rows first : List ℕ} {k : ℕ} {last log�
       let tD : tGates D ≡ members (oddSetOf n D) =
       list .t-gates ∙ ap (λ (r : Reading). members (oddSet (r .weights))) (sym (list .reads)) in
       let written-list : Writes-read n D =
-      subst (λ (r : Reading). Wrote maxWires n (weightsLent r) (rowsLent r) D) (sym (list .reads)) list in
+      subst (λ (r : Reading). Wrote maxWires n r D) (sym (list .reads)) list in
       record {
         trimmed =
             subst (λ (j : ℕ). Trimmed n C (frontGates j out′) log′ counts) (sym gates)

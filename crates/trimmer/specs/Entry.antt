@@ -5,7 +5,7 @@ use Prim.Native.Nat.{_*_, _≤_, ℕ}
 use lib.ListN.{length}
 use Rattle.circuit.specs.Faults.{Accepted, listReply, orElse, shortFault}
 use Rattle.circuit.specs.Gate.{Gate, gatesOf}
-use Rattle.circuit.specs.Lent.{KeptFrom, frontGates, rowsLent, weightsLent}
+use Rattle.circuit.specs.Lent.{KeptFrom, frontGates}
 use Rattle.circuit.specs.Limits.{gateBytes, logCells, maxWires, moveCells, writeBytes}
 use Rattle.circuit.specs.Read.{read}
 use Rattle.synth.specs.Entry.{Wrote}
@@ -30,16 +30,16 @@ pub record Trimmable (n : ℕ) (bytes out log : List ℕ) : Type 0 where
   pub out-room : writeBytes ≤ length out
   pub log-room : logCells ≤ length log
 
--- what the papers say of a written list holds of this one, for the weights and rows that reading it gives
+-- what the papers say of a written list holds of this one, for what reading it gives
 abbrev pub Writes-read : ℕ → List Gate → Type 0
-Writes-read n D = Wrote maxWires n (weightsLent (read maxWires n D)) (rowsLent (read maxWires n D)) D
+Writes-read n D = Wrote maxWires n (read maxWires n D) D
 
 -- an accepted C is trimmed
 pub record Done-with (n : ℕ) (bytes out log out′ log′ : List ℕ) (counts : Counts) : Type 0 where
   pub trimmed : Trimmed n (gatesOf bytes) (frontGates (counts .gates) out′) log′ counts
   -- and D is written as any list is: each weight in its spelling, and at most n * 2^n + n * n gates
   pub written : Writes-read n (frontGates (counts .gates) out′)
-  -- bytes after the last gate, and after the last move, stay untouched
+  -- bytes after the last gate, and cells after the last move, stay untouched
   pub gates-kept : KeptFrom (gateBytes * counts .gates) out out′
   pub log-kept : KeptFrom (moveCells * counts .moves) log log′
 

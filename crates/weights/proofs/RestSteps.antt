@@ -6,20 +6,21 @@ use Prim.Native.Nat.{_%_, _*_, _+_, _-_, _<_, _^_, suc, zero, ℕ, _≤_}
 use native.Mathlib.Decide.{decLt}
 use native.Mathlib.Numerals.{add-one}
 use native.Mathlib.Omega.{arith}
-use lib.Count.{ones, onesIn, trailingZeros}
+use lib.Count.{ones, onesIn}
 use lib.ListN.{getD, length, take}
 use lib.Pow.{pow-pos}
 use lib.Seq.{ext-getD}
 use borrow.Author.Tests.{le-ltb, lt-ltb}
 use Rattle.circuit.specs.Sound.{SoundMarks, SoundWeights, weight}
 use Rattle.gf2.proofs.Sum.{sum-suc}
+use Rattle.gf2.specs.Parity.{lowest}
 use Rattle.gf2.specs.Sum.{sum}
 use Rattle.phase.proofs.Lists.{Wide, marks-weights, pad-length, wide}
 use Rattle.phase.proofs.NewWeights.{new-high, new-low}
 use Rattle.phase.proofs.Rest.{rest-at-width}
 use Rattle.phase.proofs.WireSums.{apart-other, apart-same}
 use Rattle.phase.proofs.Wires.{is-one, is-two, low-one, low-two, next-two}
-use Rattle.phase.specs.NewWeights.{apart, byWires, low, newWeight, newWeights, next, oneRest, pairRest, rest}
+use Rattle.phase.specs.NewWeights.{apart, byWires, newWeight, newWeights, next, oneRest, pairRest, rest}
 use Rattle.weights.proofs.Difference.{one-by-difference, pair-by-difference}
 use Rattle.weights.proofs.Places.{length-weights, one-at, weights-at}
 use Rattle.weights.specs.Lists.{lEntry, qList}
@@ -57,20 +58,20 @@ unfolding ones onesIn
 some-wire p m e z = omega (arith, ap ones z)
 
 module _ (N n p : ℕ) (fit : n ≤ N) (inside : p < 2 ^ n) where
-  one-inside : ones p ≡ 1 → low N p < n
+  one-inside : ones p ≡ 1 → lowest N p < n
   one-inside o = let t = is-one n p inside o in rw (t .2, low-one N (t .0) (omega (arith, t .1))) (t .1)
 
   -- of two wires the lowest, i, can be taken away, and one is left
-  pub one-left : (i : ℕ) → i ≡ low N p → ones p ≡ 2 → (2 ^ i ≤ p) × (p - 2 ^ i ≢ 0)
+  pub one-left : (i : ℕ) → i ≡ lowest N p → ones p ≡ 2 → (2 ^ i ≤ p) × (p - 2 ^ i ≢ 0)
   one-left i e o =
       let t = is-two n p inside o in
       let h : t .0 < N = omega (arith, t .2, t .3) in
-      let f : i ≡ t .0 = e ∙ ap (λ (x : ℕ). trailingZeros N x) (t .4) ∙ low-two N (t .0) (t .1) (t .2) h in
+      let f : i ≡ t .0 = e ∙ ap (lowest N) (t .4) ∙ low-two N (t .0) (t .1) (t .2) h in
       let g : 2 ^ i ≡ 2 ^ t .0 = ap (λ (x : ℕ). 2 ^ x) f in
       (omega (arith, t .4), omega (arith, t .4, pow-pos (t .1)))
 
   -- which is a higher wire
-  next-inside : ones p ≡ 2 → (low N p < next N p) × (next N p < n)
+  next-inside : ones p ≡ 2 → (lowest N p < next N p) × (next N p < n)
   next-inside o =
       let t = is-two n p inside o in
       let h : t .0 < N = omega (arith, t .2, t .3) in
@@ -78,11 +79,11 @@ module _ (N n p : ℕ) (fit : n ≤ N) (inside : p < 2 ^ n) where
       rw (t .4, low-two N (t .0) (t .1) (t .2) h, next-two N (t .0) (t .1) (t .2) g) (t .2, t .3)
 
 module _ (N : ℕ) (one qs : List ℕ) (p : ℕ) where
-  pub rest-one-wire : (i : ℕ) → ones p ≡ 1 → i ≡ low N p → getD one i 0 ≡ restIn N one qs p
+  pub rest-one-wire : (i : ℕ) → ones p ≡ 1 → i ≡ lowest N p → getD one i 0 ≡ restIn N one qs p
   unfolding byWires
   rest-one-wire i o e = rw (o, e)
 
-  pub rest-two-wires : (i m j r : ℕ) → ones p ≡ 2 → i ≡ low N p → m ≡ p - 2 ^ i → j ≡ trailingZeros N m → r ≡ 3 * getD qs (N * j + i) 0
+  pub rest-two-wires : (i m j r : ℕ) → ones p ≡ 2 → i ≡ lowest N p → m ≡ p - 2 ^ i → j ≡ lowest N m → r ≡ 3 * getD qs (N * j + i) 0
       → r ≡ restIn N one qs p
   unfolding byWires
   rest-two-wires i m j r o e f g h = rw (o, h, g, f, e)
@@ -91,7 +92,7 @@ module _ (N : ℕ) (one qs : List ℕ) (p : ℕ) where
   unfolding byWires
   rest-more-wires a b = go (ones p) a b
     where
-      go : (o : ℕ) → o ≢ 1 → o ≢ 2 → 0 ≡ byWires o (getD one (low N p) 0) (3 * getD qs (N * next N p + low N p) 0)
+      go : (o : ℕ) → o ≢ 1 → o ≢ 2 → 0 ≡ byWires o (getD one (lowest N p) 0) (3 * getD qs (N * next N p + lowest N p) 0)
       go zero a b = refl
       go (suc zero) a b = absurd (a refl)
       go (suc (suc zero)) a b = absurd (b refl)
@@ -129,15 +130,15 @@ module _ (size N n : ℕ) (w u : List ℕ) (fit : n ≤ N) (ww : Wide n w) (wu :
   looked-up p h = go (ones p) refl ∙ sym (rest-at-width w u n N p fit h)
     where
       go : (o : ℕ) → ones p ≡ o
-          → byWires o (getD one (low N p) 0) (3 * getD qs (N * next N p + low N p) 0)
-          ≡ byWires o (oneRest n w u (low N p)) (pairRest w u (low N p) (next N p))
+          → byWires o (getD one (lowest N p) 0) (3 * getD qs (N * next N p + lowest N p) 0)
+          ≡ byWires o (oneRest n w u (lowest N p)) (pairRest w u (lowest N p) (next N p))
       go zero e = refl
       go (suc zero) e =
           let i = one-inside N n p fit h e in
-          sym (one-at N n (take (2 ^ n) (difference w u)) qs (low N p) (omega (arith, i))) ∙ one-by-difference n w u ww wu N fit (low N p) i
+          sym (one-at N n (take (2 ^ n) (difference w u)) qs (lowest N p) (omega (arith, i))) ∙ one-by-difference n w u ww wu N fit (lowest N p) i
       go (suc (suc zero)) e =
           let i = next-inside N n p fit h e in
-          pair-by-difference n w u ww wu N fit (low N p) (next N p) (i .0) (i .1)
+          pair-by-difference n w u ww wu N fit (lowest N p) (next N p) (i .0) (i .1)
       go (suc (suc (suc o))) e = refl
 
   at : (p : ℕ) → Dec (p < 2 ^ n) → weightIn N n one qs (weight u p) p ≡ weight (newWeights size n w u) p

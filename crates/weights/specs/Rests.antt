@@ -9,9 +9,10 @@ use lib.ListN.{getD, length}
 use Rattle.circuit.specs.Limits.{maxWires, pairBytes, parities, tableBytes}
 use Rattle.circuit.specs.Read.{either}
 use Rattle.circuit.specs.Sound.{weight}
+use Rattle.gf2.specs.Parity.{lowest}
 use Rattle.gf2.specs.Sum.{sum}
 use Rattle.gf2.specs.Table.{tabulate}
-use Rattle.phase.specs.NewWeights.{apart, byWires, low, next}
+use Rattle.phase.specs.NewWeights.{apart, byWires, next}
 use Rattle.weights.specs.Lists.{lEntry, qList}
 
 -- no rest is more than three times a byte, before it is reduced
@@ -36,7 +37,7 @@ oneRests N n d qs = tabulate N (oneIn N n d qs)
 
 -- the rest on p, looked up: one wire, two, or none
 abbrev pub restIn : ℕ → List ℕ → List ℕ → ℕ → ℕ
-restIn N one qs p = byWires (ones p) (getD one (low N p) 0) (3 * getD qs (N * next N p + low N p) 0)
+restIn N one qs p = byWires (ones p) (getD one (lowest N p) 0) (3 * getD qs (N * next N p + lowest N p) 0)
 
 -- the new weight of p by it: its mark, with the rest added modulo 8; 0 from 2^n up
 abbrev pub weightIn : ℕ → ℕ → List ℕ → List ℕ → ℕ → ℕ → ℕ

@@ -1,5 +1,5 @@
 -- No gate before gate i has a fault: the first fault of the rest is that of the list.
-use mathlib.Core.Path.{_∙_, _≡_}
+use mathlib.Core.Path.{_∙_, _≡_, ap}
 use Prim.Native.Nat.{_-_, _/_, _≤_}
 use native.Mathlib.Omega.{arith}
 use lib.ListN.{length}
@@ -7,7 +7,7 @@ use borrow.Author.Needs.{needs}
 use denote.Ref.{now}
 use Rattle.circuit.proofs.Bytes.{gatesFrom}
 use Rattle.circuit.proofs.Steps.{fault-here, fault-later, no-fault}
-use Rattle.circuit.specs.Faults.{firstFault}
+use Rattle.circuit.specs.Faults.{firstFault, gateFault}
 use Rattle.circuit.specs.Gate.{gatesOf}
 use Rattle.circuit.specs.Limits.{gateBytes}
 use Rattle.circuit.proofs.faults.first_fault.Statement.{statement}
@@ -21,23 +21,25 @@ abbrev μ-loop : tie.MeasureT-loop
 
 returns : tie.Need-returns Inv-loop μ-loop
 returns c =
-    let after-gate-fault : tie.After-gate-fault Inv-loop μ-loop = search in
+    let f : tie.After-gate-fault Inv-loop μ-loop = search in
+    let g : tie.After-gate-at Inv-loop μ-loop = search in
     let at : tie.At-loop Inv-loop μ-loop = search in
     let s : tie.Start Inv-loop μ-loop = search in
     let a = s .args in
-    fault-here (a .n) (now (a .gates)) (at .loop .i) (omega arith) (after-gate-fault .gate-fault .result)
-    (after-gate-fault .gate-fault .ensures) (omega arith) ∙ at .loop .inv .2
+    fault-here (a .n) (now (a .gates)) (at .loop .i) (omega arith) (f .gate-fault .result)
+    (f .gate-fault .ensures ∙ ap (gateFault (a .n)) (g .gate-at .ensures)) (omega arith) ∙ at .loop .inv .2
 
 loop-again : tie.Need-loop-again Inv-loop μ-loop
 loop-again c =
-    let after-gate-fault : tie.After-gate-fault Inv-loop μ-loop = search in
+    let f : tie.After-gate-fault Inv-loop μ-loop = search in
+    let g : tie.After-gate-at Inv-loop μ-loop = search in
     let at : tie.At-loop Inv-loop μ-loop = search in
     let s : tie.Start Inv-loop μ-loop = search in
     let a = s .args in (
       search needs,
       search needs,
-      fault-later (a .n) (now (a .gates)) (at .loop .i) (omega arith) (after-gate-fault .gate-fault .result)
-          (after-gate-fault .gate-fault .ensures) (omega arith) ∙ at .loop .inv .2,
+      fault-later (a .n) (now (a .gates)) (at .loop .i) (omega arith) (f .gate-fault .result)
+          (f .gate-fault .ensures ∙ ap (gateFault (a .n)) (g .gate-at .ensures)) (omega arith) ∙ at .loop .inv .2,
     )
 
 returns-2 : tie.Need-returns-2 Inv-loop μ-loop
@@ -54,14 +56,7 @@ first-fault-spec =
     Inv-loop
     μ-loop
     (λ c. search needs)
-    (λ c. search needs)
-    (λ c. search needs)
-    (λ c. search needs)
-    (λ c. search needs)
-    (λ c. search needs)
-    (λ c. search needs)
-    (λ c. search needs)
-    (λ c. search needs)
+    (λ c κs. search needs)
     (λ c κs. search needs)
     returns
     (λ c. search needs)

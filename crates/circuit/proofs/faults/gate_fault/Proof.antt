@@ -19,8 +19,8 @@ cnot-fault-requires c κs = search needs
 enum-told-2 : tie.Need-enum-told-2
 enum-told-2 c = search needs
 
-phase-fault-requires : tie.Need-phase-fault-requires
-phase-fault-requires c κs = search needs
+one-wire-fault-requires : tie.Need-one-wire-fault-requires
+one-wire-fault-requires c κs = search needs
 
 enum-told-3 : tie.Need-enum-told-3
 enum-told-3 c = search needs
@@ -40,8 +40,8 @@ returns-2 c =
     let after-kind-of : tie.After-kind-of = search in
     let start : tie.Start = search in
     let a = start .args in
-    by-kind (a .n) (a .kind) (a .a) (a .b) (Phase (after-enum-told2 .enum-told2 .given .0 .0)) (c .phase-fault .result)
-    (sym (after-enum-told2 .enum-told2 .given .1) ∙ after-kind-of .kind-of .ensures) (c .phase-fault .ensures)
+    by-kind (a .n) (a .kind) (a .a) (a .b) (Phase (after-enum-told2 .enum-told2 .given .0 .0)) (c .one-wire-fault .result)
+    (sym (after-enum-told2 .enum-told2 .given .1) ∙ after-kind-of .kind-of .ensures) (c .one-wire-fault .ensures)
 
 returns-3 : tie.Need-returns-3
 returns-3 c =
@@ -58,7 +58,7 @@ gate-fault-spec =
     enum-told
     cnot-fault-requires
     enum-told-2
-    phase-fault-requires
+    one-wire-fault-requires
     enum-told-3
     returns
     returns-2

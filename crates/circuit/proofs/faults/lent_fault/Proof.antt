@@ -7,12 +7,12 @@ use Rattle.circuit.proofs.faults.lent_fault.Tie as tie
 returns : tie.Need-returns
 returns c =
     let start : tie.Start = search in
-    simp (eq-eqb (start .args .bytes) (start .args .wanted) (omega arith))
+    simp (eq-eqb (start .args .long) (start .args .wanted) (omega arith))
 
 returns-2 : tie.Need-returns-2
 returns-2 c =
     let start : tie.Start = search in
-    simp (ne-eqb (start .args .bytes) (start .args .wanted) (omega arith))
+    simp (ne-eqb (start .args .long) (start .args .wanted) (omega arith))
 
 pub lent-fault-spec : {M : Type 1} → statement M
 lent-fault-spec = tie.close (tie.spec returns returns-2)

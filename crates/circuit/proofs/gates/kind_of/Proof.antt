@@ -3,7 +3,7 @@ use mathlib.Core.Path.{sym, _≡_}
 use native.Mathlib.Omega.{arith}
 use borrow.Author.Needs.{needs}
 use Rattle.circuit.proofs.GateKinds.{kind-above}
-use Rattle.circuit.specs.Gate.{kindOf}
+use Rattle.circuit.specs.Gate.{CNOT, kindOf}
 use Rattle.circuit.proofs.gates.kind_of.Statement.{statement}
 use Rattle.circuit.proofs.gates.kind_of.Tie as tie
 
@@ -11,7 +11,7 @@ returns : tie.Need-returns
 unfolding kindOf
 returns c =
     let start : tie.Start = search in
-    let e : start .args .kind ≡ 1 = omega arith in rw e
+    let e : start .args .kind ≡ CNOT = omega arith in rw e
 
 returns-3 : tie.Need-returns-3
 unfolding kindOf

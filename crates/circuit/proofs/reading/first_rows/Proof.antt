@@ -8,21 +8,21 @@ use Rattle.gf2.proofs.Table.{Filled, filled-all, filled-none}
 use Rattle.circuit.proofs.Filling.{put-filled, put-long}
 use Rattle.circuit.proofs.Sound.{length-first}
 use Rattle.circuit.proofs.Steps.{first-entry}
-use Rattle.circuit.specs.Limits.{maxWires, rowCells}
+use Rattle.circuit.specs.Limits.{maxWires}
 use Rattle.circuit.specs.Read.{firstRows}
 use Rattle.circuit.proofs.reading.first_rows.Statement.{statement}
 use Rattle.circuit.proofs.reading.first_rows.Tie as tie
 
 abbrev Inv-loop : tie.InvT-loop
-Inv-loop n rows₀ i₀ rows i = (i ≤ rowCells) × (length rows ≡ rowCells) × Filled rows (firstRows maxWires n) i
+Inv-loop n rows₀ i₀ rows i = (i ≤ maxWires) × (length rows ≡ maxWires) × Filled rows (firstRows maxWires n) i
 
 abbrev μ-loop : tie.MeasureT-loop
-μ-loop n rows₀ i₀ rows i = rowCells - i
+μ-loop n rows₀ i₀ rows i = maxWires - i
 
 loop-holds : tie.Need-loop-holds Inv-loop μ-loop
 loop-holds c =
     let s : tie.Start Inv-loop μ-loop = search in
-    (search needs, search needs, filled-none (replicate rowCells 0) (firstRows maxWires (s .args .n)))
+    (search needs, search needs, filled-none (replicate maxWires 0) (firstRows maxWires (s .args .n)))
 
 loop-again : tie.Need-loop-again Inv-loop μ-loop
 loop-again c =

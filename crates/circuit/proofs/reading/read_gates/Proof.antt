@@ -1,4 +1,4 @@
--- Reading the gates from gate g on, from the tables so far, gives the reading of the list.
+-- Reading the gates from gate g on, from the reading so far, gives the reading of the list.
 use mathlib.Core.Path.{ap, subst, sym, _∙_, _≡_}
 use Prim.Native.Nat.{_-_, _/_, _<_, _≤_}
 use native.Mathlib.Omega.{arith}
@@ -36,8 +36,7 @@ entry k = search
 
 turn : (k : Kinded) →
     Turn maxWires (entry k .args .n) (now (entry k .args .gates)) (readBytes (entry k .args .n) (now (entry k .args .gates)))
-    (head k .loop .g)
-    (head k .loop .weights) (head k .loop .rows)
+    (head k .loop .g) (readingLent (head k .loop .weights) (head k .loop .rows))
 turn k = record { fit = entry k .pre .0; inside = omega arith; to = head k .loop .inv .2 }
 
 loop-holds : tie.Need-loop-holds Inv-loop μ-loop
@@ -55,86 +54,68 @@ loop-holds c =
       ),
     )
 
--- a CNOT, after its wires are known
-abbrev Joined : Type 0
-Joined = tie.After-wire-of2 Inv-loop μ-loop
-
-abbrev source : Joined → tie.After-wire-of Inv-loop μ-loop
-source j = search
-
--- both wires of a CNOT have a row
-wires : (j : Joined) → (source j .wire-of .result < maxWires) × (j .wire-of2 .result < maxWires)
-wires j =
-    let k : Kinded = search in
+join-rows-requires : tie.Need-join-rows-requires Inv-loop μ-loop
+join-rows-requires c κs =
     let t : tie.After-enum-told Inv-loop μ-loop = search in
-    let f = cnot-wires (turn k) (sym (t .enum-told .given .1) ∙ k .kind-of .ensures) in
-    (omega (arith, f .0), omega (arith, f .1))
-
-cell-at-requires : tie.Need-cell-at-requires Inv-loop μ-loop
-cell-at-requires c κs = let k : Kinded = search in omega (arith, wires (search) .1, rows-long (turn k))
-
-cell-at-requires-2 : tie.Need-cell-at-requires-2 Inv-loop μ-loop
-cell-at-requires-2 c κs = let k : Kinded = search in omega (arith, wires (search) .0, rows-long (turn k))
-
-put-cell-requires : tie.Need-put-cell-requires Inv-loop μ-loop
-put-cell-requires c κs = let k : Kinded = search in omega (arith, wires (search) .1, rows-long (turn k))
+    let k : Kinded = search in
+    let g : tie.After-gate-at Inv-loop μ-loop = search in
+    let f = cnot-wires (turn k) (g .gate-at .ensures) (sym (t .enum-told .given .1) ∙ k .kind-of .ensures) in
+    record { long = rows-long (turn k); a-wire = f .0; b-wire = f .1 }
 
 loop-again : tie.Need-loop-again Inv-loop μ-loop
 loop-again c =
-    let put : tie.After-put-cell Inv-loop μ-loop = search in
-    let source : tie.After-cell-at2 Inv-loop μ-loop = search in
-    let target : tie.After-cell-at Inv-loop μ-loop = search in
-    let j : Joined = search in
-    let i : tie.After-wire-of Inv-loop μ-loop = search in
+    let j : tie.After-join-rows Inv-loop μ-loop = search in
     let t : tie.After-enum-told Inv-loop μ-loop = search in
-    let k : Kinded = search in (
+    let k : Kinded = search in
+    let g : tie.After-gate-at Inv-loop μ-loop = search in (
       search needs,
       search needs,
-      cnot-on (turn k) (sym (t .enum-told .given .1) ∙ k .kind-of .ensures) (i .wire-of .ensures) (j .wire-of2 .ensures)
-          (target .cell-at .ensures) (source .cell-at2 .ensures) (put .put-cell .ensures),
+      cnot-on (turn k) (g .gate-at .ensures) (sym (t .enum-told .given .1) ∙ k .kind-of .ensures) (j .join-rows .ensures),
     )
 
 -- the wire of a phase gate has a row
-cell-at-requires-3 : tie.Need-cell-at-requires-3 Inv-loop μ-loop
-cell-at-requires-3 c κs =
-    let k : Kinded = search in
+cell-at-requires : tie.Need-cell-at-requires Inv-loop μ-loop
+cell-at-requires c κs =
+    let i : tie.After-wire-of Inv-loop μ-loop = search in
     let v : tie.After-said Inv-loop μ-loop = search in
-    let i : tie.After-wire-of3 Inv-loop μ-loop = search in
-    omega (arith, phase-wire (turn k) _ (sym (v .said .given .1) ∙ k .kind-of .ensures), i .wire-of3 .ensures, rows-long (turn k))
-
-index-of-requires : tie.Need-index-of-requires Inv-loop μ-loop
-index-of-requires c κs =
-    let p : tie.After-cell-at3 Inv-loop μ-loop = search in
-    let i : tie.After-wire-of3 Inv-loop μ-loop = search in
     let k : Kinded = search in
-    omega (arith, p .cell-at3 .ensures, row-fits (turn k) (i .wire-of3 .result))
+    let g : tie.After-gate-at Inv-loop μ-loop = search in
+    let wire = phase-wire (turn k) (g .gate-at .ensures) _ (sym (v .said .given .1) ∙ k .kind-of .ensures) in
+    omega (arith, wire, i .wire-of .ensures, rows-long (turn k))
 
 add-phase-requires : tie.Need-add-phase-requires Inv-loop μ-loop
 add-phase-requires c κs =
-    let k : Kinded = search in
+    let p : tie.After-cell-at Inv-loop μ-loop = search in
+    let i : tie.After-wire-of Inv-loop μ-loop = search in
     let v : tie.After-said Inv-loop μ-loop = search in
-    let q : tie.After-index-of Inv-loop μ-loop = search in
-    (turn k .to .1 .weights .small (q .index-of .result), phase-lt _ _ (sym (k .kind-of .ensures) ∙ v .said .given .1))
+    let k : Kinded = search in
+    record {
+      long = turn k .to .1 .weights .long;
+      inside = omega (arith, p .cell-at .ensures, row-fits (turn k) (i .wire-of .result));
+      small = turn k .to .1 .weights .small (p .cell-at .result);
+      phase = phase-lt _ _ (sym (k .kind-of .ensures) ∙ v .said .given .1);
+    }
 
 loop-again-2 : tie.Need-loop-again-2 Inv-loop μ-loop
 loop-again-2 c =
     let add : tie.After-add-phase Inv-loop μ-loop = search in
-    let q : tie.After-index-of Inv-loop μ-loop = search in
-    let p : tie.After-cell-at3 Inv-loop μ-loop = search in
-    let i : tie.After-wire-of3 Inv-loop μ-loop = search in
+    let p : tie.After-cell-at Inv-loop μ-loop = search in
+    let i : tie.After-wire-of Inv-loop μ-loop = search in
     let v : tie.After-said Inv-loop μ-loop = search in
-    let k : Kinded = search in (
+    let k : Kinded = search in
+    let g : tie.After-gate-at Inv-loop μ-loop = search in (
       search needs,
       search needs,
-      phase-on (turn k) _ (sym (v .said .given .1) ∙ k .kind-of .ensures) (i .wire-of3 .ensures)
-          (q .index-of .ensures .0 ∙ p .cell-at3 .ensures)
-          (add .add-phase .ensures),
+      phase-on (turn k) (g .gate-at .ensures) _ (sym (v .said .given .1) ∙ k .kind-of .ensures)
+          (p .cell-at .ensures ∙ rw (i .wire-of .ensures)) (add .add-phase .ensures),
     )
 
 loop-again-3 : tie.Need-loop-again-3 Inv-loop μ-loop
 loop-again-3 c =
     let k : Kinded = search in
-    (search needs, search needs, unknown-on (turn k) (sym (c .enum-told2 .given .1) ∙ k .kind-of .ensures))
+    let g : tie.After-gate-at Inv-loop μ-loop = search in
+    let said = sym (c .enum-told2 .given .1) ∙ k .kind-of .ensures in
+    (search needs, search needs, unknown-on (turn k) (g .gate-at .ensures) said)
 
 returns : tie.Need-returns Inv-loop μ-loop
 returns c =
@@ -150,35 +131,19 @@ read-gates-spec =
     μ-loop
     (λ c κs. search needs)
     loop-holds
-    (λ c. search needs)
-    (λ c. search needs)
-    (λ c κs. search needs)
-    (λ c. search needs)
-    (λ c. search needs)
-    (λ c. search needs)
-    (λ c. search needs)
-    (λ c. search needs)
-    (λ c. search needs)
-    (λ c. search needs)
-    (λ c. search needs)
     (λ c κs. search needs)
     (λ c κs. search needs)
     (λ c. search needs)
-    cell-at-requires
     (λ c. search needs)
-    cell-at-requires-2
     (λ c. search needs)
-    put-cell-requires
+    join-rows-requires
     (λ c. search needs)
     loop-again
     (λ c. search needs)
+    (λ c. search needs)
     (λ c κs. search needs)
-    (λ c. search needs)
-    cell-at-requires-3
-    index-of-requires
-    (λ c. search needs)
+    cell-at-requires
     add-phase-requires
-    (λ c. search needs)
     (λ c. search needs)
     loop-again-2
     (λ c. search needs)

@@ -5,7 +5,7 @@ use Prim.Native.Nat.{_-_, ℕ, _≤_}
 use native.Mathlib.Omega.{arith}
 use lib.ListN.{length}
 use borrow.Author.Needs.{needs}
-use Rattle.circuit.specs.Limits.{maxWires, rowCells}
+use Rattle.circuit.specs.Limits.{maxWires}
 use Rattle.circuit.specs.Read.{firstRows}
 use Rattle.synth.proofs.MaskSteps.{Going, going-start}
 use Rattle.synth.proofs.RowRule.{dependent-fault, independent-clear}
@@ -26,7 +26,7 @@ loop-holds c =
     (search needs, (firstRows maxWires (s .args .n), going-start maxWires _ _ (s .pre .0) (s .pre .1 .long) (s .pre .1 .within)))
 
 -- there are as many masks as rows
-wide : (h : tie.At-loop Inv-loop μ-loop) → length (h .loop .masks) ≡ rowCells
+wide : (h : tie.At-loop Inv-loop μ-loop) → length (h .loop .masks) ≡ maxWires
 wide h = h .loop .inv .1 .1 .wide
 
 returns : tie.Need-returns Inv-loop μ-loop

@@ -2,7 +2,7 @@
 use Prim.Native.Nat.{_-_}
 use native.Mathlib.Omega.{arith}
 use borrow.Author.Needs.{needs}
-use Rattle.circuit.specs.Limits.{rowCells}
+use Rattle.circuit.specs.Limits.{maxWires}
 use Rattle.synth.proofs.RowTurns.{Recounted, recount-first, recount-last, recount-next}
 use Rattle.synth.proofs.masks.recount_masks.Statement.{statement}
 use Rattle.synth.proofs.masks.recount_masks.Tie as tie
@@ -11,7 +11,7 @@ abbrev Inv-loop : tie.InvT-loop
 Inv-loop t q masks s₀ i₀ s i = Recounted t q masks s i
 
 abbrev μ-loop : tie.MeasureT-loop
-μ-loop t q masks s₀ i₀ s i = rowCells - i
+μ-loop t q masks s₀ i₀ s i = maxWires - i
 
 loop-holds : tie.Need-loop-holds Inv-loop μ-loop
 loop-holds c = let s : tie.Start Inv-loop μ-loop = search in recount-first (s .pre .1)

@@ -2,14 +2,14 @@
 use mathlib.Core.Path.{ap, _∙_, _≡_}
 use lib.ListN.{length}
 use borrow.Author.Needs.{needs}
-use Rattle.circuit.specs.Limits.{rowCells}
+use Rattle.circuit.specs.Limits.{maxWires}
 use Rattle.synth.proofs.MaskSteps.{length-recount}
 use Rattle.synth.proofs.RowTurns.{stepped}
 use Rattle.synth.proofs.masks.row_step.Statement.{statement}
 use Rattle.synth.proofs.masks.row_step.Tie as tie
 
 -- the masks stay as many
-full-long : (f : tie.After-recount-masks) → length (f .recount-masks .result) ≡ rowCells
+full-long : (f : tie.After-recount-masks) → length (f .recount-masks .result) ≡ maxWires
 full-long f =
     let s : tie.Start = search in
     ap length (f .recount-masks .ensures) ∙ length-recount (s .args .b) _ _ ∙ s .pre .2

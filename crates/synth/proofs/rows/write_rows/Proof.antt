@@ -4,7 +4,7 @@ use Prim.Native.Nat.{_-_, _<_, _≤_}
 use native.Mathlib.Omega.{arith}
 use lib.ListN.{length}
 use borrow.Author.Needs.{needs}
-use Rattle.circuit.specs.Limits.{maxWires, rowCells}
+use Rattle.circuit.specs.Limits.{maxWires}
 use Rattle.synth.proofs.RowTurns.{RowLoop, lack-room, pivot-inside, rows-first, rows-last, rows-next, surplus-room}
 use Rattle.synth.proofs.Stores.{stored-same}
 use Rattle.synth.proofs.rows.write_rows.Statement.{statement}
@@ -20,7 +20,7 @@ loop-holds : tie.Need-loop-holds Inv-loop μ-loop
 loop-holds c = let s : tie.Start Inv-loop μ-loop = search in (search needs, rows-first (s .pre))
 
 -- there are as many masks as rows
-wide : (h : tie.At-loop Inv-loop μ-loop) → length (h .loop .masks) ≡ rowCells
+wide : (h : tie.At-loop Inv-loop μ-loop) → length (h .loop .masks) ≡ maxWires
 wide h = h .loop .inv .1 .going .wide
 
 -- the pivot of a row is a wire

@@ -24,8 +24,9 @@ loop-holds c =
 loop-again : tie.Need-loop-again Inv-loop μ-loop
 loop-again c =
     let put : tie.After-put-gate Inv-loop μ-loop = search in
+    let g : tie.After-gate-at Inv-loop μ-loop = search in
     let at : tie.At-loop Inv-loop μ-loop = search in
-    (search needs, search needs, gate-put (at .loop .inv .2) (omega arith) (omega arith) (put .put-gate .ensures))
+    (search needs, search needs, gate-put (at .loop .inv .2) (omega arith) (omega arith) (g .gate-at .ensures) (put .put-gate .ensures))
 
 returns : tie.Need-returns Inv-loop μ-loop
 returns c =
@@ -39,14 +40,7 @@ put-gates-spec =
     Inv-loop
     μ-loop
     loop-holds
-    (λ c. search needs)
-    (λ c. search needs)
-    (λ c. search needs)
-    (λ c. search needs)
-    (λ c. search needs)
-    (λ c. search needs)
-    (λ c. search needs)
-    (λ c. search needs)
+    (λ c κs. search needs)
     (λ c κs. search needs)
     (λ c. search needs)
     (λ c. search needs)

@@ -1,8 +1,8 @@
 -- Fault 4 of a phase gate, by the two tests.
 use native.Mathlib.Omega.{arith}
 use borrow.Author.Tests.{eq-eqb, le-leb, lt-leb, ne-eqb}
-use Rattle.circuit.proofs.faults.phase_fault.Statement.{statement}
-use Rattle.circuit.proofs.faults.phase_fault.Tie as tie
+use Rattle.circuit.proofs.faults.one_wire_fault.Statement.{statement}
+use Rattle.circuit.proofs.faults.one_wire_fault.Tie as tie
 
 returns : tie.Need-returns
 returns c =
@@ -19,5 +19,5 @@ returns-3 c =
     let start : tie.Start = search in
     let a = start .args in simp (lt-leb (a .n) (a .a) (omega arith), eq-eqb (a .b) 0 (omega arith))
 
-pub phase-fault-spec : {M : Type 1} → statement M
-phase-fault-spec = tie.close (tie.spec returns returns-2 returns-3)
+pub one-wire-fault-spec : {M : Type 1} → statement M
+one-wire-fault-spec = tie.close (tie.spec returns returns-2 returns-3)
