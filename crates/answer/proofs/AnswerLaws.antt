@@ -1,20 +1,18 @@
 -- The page to read: what the promise of `answer` means.
-use mathlib.Core.Bool.{Bool, false, true}
 use mathlib.Core.List.{List, [], _++_, _∷_}
 use mathlib.Core.Logic.{inl, inr}
 use mathlib.Core.Path.{_∙_, _≡_, ap, refl, subst, sym}
-use Prim.Native.Nat.{_+_, _<_, _≤_, ℕ}
+use Prim.Native.Nat.{_+_, _<_, _≤_, suc, zero, ℕ}
 use native.Mathlib.Decide.{decLt}
 use native.Mathlib.Omega.{arith}
-use lib.Dec.{ltb}
 use lib.ListN.{drop, length, take}
 use lib.Seq.{take-append-seam}
-use borrow.Author.Tests.{le-ltb, lt-ltb}
 use Rattle.circuit.proofs.Bytes.{gates-in}
 use Rattle.circuit.proofs.GateKinds.{kind-above, t-is-odd}
+use Rattle.circuit.proofs.Judging.{short-pass}
 use Rattle.circuit.proofs.Laws.{fault-is-first, odd-set-no-larger}
 use Rattle.circuit.proofs.Placing.{placed-kept}
-use Rattle.circuit.specs.Faults.{AllWellFormed, Has, KindHas, KindWellFormed, WellFormed, firstFault, gateAt, lentOutput, sameWire}
+use Rattle.circuit.specs.Faults.{AllWellFormed, Has, KindHas, KindWellFormed, WellFormed, firstFault, gateAt, sameWire, shortFault}
 use Rattle.circuit.specs.Gate.{Gate, bytesOf, gate, gatesOf, kindOf, lastKind, tGates}
 use Rattle.circuit.specs.Lent.{KeptFrom}
 use Rattle.circuit.specs.Limits.{maxGates, maxWires, maxWrittenGates}
@@ -30,6 +28,7 @@ use Rattle.text.proofs.WrittenReads.{AllBytes, AreBytes}
 use Rattle.text.specs.Limits.{byteValues, replyBytes, textBytes}
 use Rattle.text.specs.Text.{Sayable, Text, circuit, faulty, readText}
 use Rattle.text.specs.Written.{gateLines, wiresLine}
+use Rattle.answer.proofs.AnswerWays.{little-room}
 use Rattle.answer.specs.Entry.{AnswerText, Outcome, Writes-printed}
 use Rattle.answer.specs.Printed.{Prints, PrintsGates, PrintsTrim}
 use Rattle.answer.specs.declared.Answered.{Answered}
@@ -40,7 +39,7 @@ use Rattle.answer.specs.declared.Answered.the-variants.{Done, Refused}
 -- a call with these bytes alone replies and leaves what one with the whole text may
 pub first-bytes-decide-reply : (t out out′ : List ℕ) (r : Answered) → AnswerText (take textBytes t) out out′ r → AnswerText t out out′ r
 first-bytes-decide-reply t out out′ r a =
-    record { outcome = subst (λ (x : Text). Outcome (ltb (length out) replyBytes) x out out′ r) (sym (first-bytes-decide t)) (a .outcome) }
+    record { outcome = rw (first-bytes-decide t) (a .outcome) }
 
 -- ---- what is left in the lent bytes
 
@@ -81,36 +80,30 @@ module _ (t out out′ : List ℕ) (count : ℕ) where
       }
 
   pub done-prints : AnswerText t out out′ (Done count) → Printed t out out′ count
-  done-prints a = go (decLt (length out) replyBytes)
+  done-prints a = go (shortFault (length out) replyBytes) refl (a .outcome)
     where
-      never : Done count ≡ Refused lentOutput 0 → ⊥
-      never e = let z : _≡_ {A = ℕ} 0 1 = cc in omega arith
+      never : (f : ℕ) → Done count ≡ Refused f 0 → ⊥
+      never f e = let z : _≡_ {A = ℕ} 0 1 = cc in omega arith
 
       same : (k : ℕ) → Done count ≡ Done k → k ≡ count
       same k e = cc
 
-      told : (b : Bool) → ltb (length out) replyBytes ≡ b → Outcome b (readText t) out out′ (Done count)
-      told b e = subst (λ (x : Bool). Outcome x (readText t) out out′ (Done count)) e (a .outcome)
-
-      go : Dec (length out < replyBytes) → Printed t out out′ count
-      go (yes h) = absurd (never (told true (lt-ltb (length out) replyBytes h) .0))
-      go (no h) =
-          let o = told false (le-ltb (length out) replyBytes (omega arith)) in
-          written (omega arith) (subst (λ (k : ℕ). Writes-printed (readText t) out out′ k) (same (o .0) (o .1)) (o .2))
+      go : (f : ℕ) → shortFault (length out) replyBytes ≡ f → Outcome f (readText t) out out′ (Done count) → Printed t out out′ count
+      go zero e (k, is, w) =
+          written (short-pass (length out) replyBytes e) (subst (λ (x : ℕ). Writes-printed (readText t) out out′ x) (same k is) w)
+      go (suc f) e (is, left) = absurd (never (suc f) is)
 
   -- after a refusal they are as they were, and only too little room is refused
   pub refusal-leaves : (number place : ℕ) → AnswerText t out out′ (Refused number place) → (out′ ≡ out) × (length out < replyBytes)
-  refusal-leaves number place a = go (decLt (length out) replyBytes)
+  refusal-leaves number place a = go (shortFault (length out) replyBytes) refl (a .outcome)
     where
       never : (k : ℕ) → Refused number place ≡ Done k → ⊥
       never k e = let z : _≡_ {A = ℕ} 0 1 = cc in omega arith
 
-      told : (b : Bool) → ltb (length out) replyBytes ≡ b → Outcome b (readText t) out out′ (Refused number place)
-      told b e = subst (λ (x : Bool). Outcome x (readText t) out out′ (Refused number place)) e (a .outcome)
-
-      go : Dec (length out < replyBytes) → (out′ ≡ out) × (length out < replyBytes)
-      go (yes h) = (told true (lt-ltb (length out) replyBytes h) .1, h)
-      go (no h) = let o = told false (le-ltb (length out) replyBytes (omega arith)) in absurd (never (o .0) (o .1))
+      go : (f : ℕ) → shortFault (length out) replyBytes ≡ f → Outcome f (readText t) out out′ (Refused number place)
+          → (out′ ≡ out) × (length out < replyBytes)
+      go zero e (k, is, w) = absurd (never k is)
+      go (suc f) e (is, left) = (left, little-room (length out) (sym e) (omega arith) .0)
 
 -- ---- no number has more digits than are printed
 

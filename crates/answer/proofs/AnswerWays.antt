@@ -1,21 +1,22 @@
 -- One law for each way out of the functions of this crate: what the text reader and the trim reply, and what is printed for it.
-use mathlib.Core.Bool.{Bool}
 use mathlib.Core.List.{List}
+use mathlib.Core.Logic.{_≢_}
 use mathlib.Core.Path.{_∙_, _≡_, ap, ap₂, refl, subst, sym}
 use Prim.Native.Nat.{_*_, _/_, _<_, _≤_, ℕ}
+use native.Mathlib.Decide.{decLe}
 use native.Mathlib.Omega.{arith}
 use lib.ListN.{length, length-take, take}
-use borrow.Author.Tests.{le-ltb, lt-ltb}
+use borrow.Author.Tests.{lt-leb}
 use Rattle.circuit.proofs.Bytes.{gates-in}
 use Rattle.circuit.proofs.Judging.{or-well, passes-list-call, short-well}
-use Rattle.circuit.specs.Faults.{firstFault, lentOutput, listCallFault, refuse}
+use Rattle.circuit.specs.Faults.{firstFault, lentOutput, listCallFault, refuse, shortFault}
 use Rattle.circuit.specs.Gate.{gatesOf}
 use Rattle.circuit.specs.Lent.{frontGates}
 use Rattle.circuit.specs.Limits.{gateBytes, logCells, maxListBytes, writeBytes}
 use Rattle.circuit.specs.declared.Reply.{Reply}
 use Rattle.circuit.specs.declared.Reply.the-variants as reply
-use Rattle.text.proofs.TextLaws.{CircuitRead, done-reads}
-use Rattle.text.specs.Entry.{ReadText, readInto, replyOf}
+use Rattle.text.proofs.TextLaws.{CircuitRead, done-reads, with-room}
+use Rattle.text.specs.Entry.{ReadText, replyOf}
 use Rattle.text.specs.Limits.{replyBytes}
 use Rattle.text.specs.Placed.{Writes}
 use Rattle.text.specs.Text.{Sayable, Text, circuit, faulty, readText}
@@ -27,7 +28,6 @@ use Rattle.trimmer.specs.declared.Counts.{Counts}
 use Rattle.trimmer.specs.declared.TrimReply.{TrimReply}
 use Rattle.trimmer.specs.declared.TrimReply.the-variants as trim
 use Rattle.answer.specs.Entry.{AnswerText, Writes-printed}
-use Rattle.answer.specs.Entry as entry
 use Rattle.answer.specs.Printed.{PrintsGates, trimLines}
 use Rattle.answer.specs.declared.Answered.the-variants.{Done, Refused}
 
@@ -125,9 +125,7 @@ module _ {t gates gates′ : List ℕ} {r : TextReply} (p : ReadText t gates gat
   fault-printed {number} {place} room is w = go (readText t) refl
     where
       told : read.Refused number place ≡ replyOf (readText t)
-      told =
-          let whole : readInto (length gates) t ≡ readText t = simp (le-ltb (length gates) maxListBytes room) in
-          sym is ∙ p .reply ∙ ap replyOf whole
+      told = sym is ∙ p .reply ∙ ap replyOf (with-room (length gates) t room)
 
       same : (f q : ℕ) → read.Refused number place ≡ read.Refused f q → refusedLine number place ≡ refusedLine f q
       same f q e =
@@ -155,18 +153,18 @@ circuit-left {gates′ = gates′} {m = m} c = omega (arith, c .long, length-tak
 
 -- ---- the entry
 
+-- the check gives a fault only where there is too little room, and then 8
+pub little-room : (lent : ℕ) {f : ℕ} → f ≡ shortFault lent replyBytes → f ≢ 0 → (lent < replyBytes) × (f ≡ lentOutput)
+little-room lent {f} e h = go (decLe replyBytes lent)
+  where
+    go : Dec (replyBytes ≤ lent) → (lent < replyBytes) × (f ≡ lentOutput)
+    go (yes l) = absurd (h (e ∙ short-well lent replyBytes l))
+    go (no l) = (omega arith, e ∙ simp (lt-leb replyBytes lent (omega arith)))
+
 module _ (t out : List ℕ) where
   pub too-little-room : length out < replyBytes → AnswerText t out out (Refused lentOutput 0)
-  too-little-room h =
-      record {
-        outcome = subst (λ (b : Bool). entry.Outcome b (readText t) out out (Refused lentOutput 0))
-            (sym (lt-ltb (length out) replyBytes h)) (refl, refl);
-      }
+  too-little-room h = record { outcome = simp (lt-leb replyBytes (length out) h) (refl, refl) }
 
   pub answered : replyBytes ≤ length out → (out′ : List ℕ) (count : ℕ) → Writes-printed (readText t) out out′ count
       → AnswerText t out out′ (Done count)
-  answered h out′ count w =
-      record {
-        outcome = subst (λ (b : Bool). entry.Outcome b (readText t) out out′ (Done count)) (sym (le-ltb (length out) replyBytes h))
-            (count, refl, w);
-      }
+  answered h out′ count w = record { outcome = rw (short-well (length out) replyBytes h) (count, refl, w) }

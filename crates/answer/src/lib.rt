@@ -10,7 +10,7 @@ ghost use Rattle.text.specs.Placed.{Writes};
 ghost use Rattle.text.specs.Text.{Sayable, circuit, readText};
 ghost use Rattle.answer.specs.Entry.{AnswerText, Writes-printed};
 ghost use Rattle.answer.specs.Printed.{trimLines};
-use circuit::faults::LENT_OUTPUT;
+use circuit::faults::short_fault;
 use circuit::limits::GATE_BYTES;
 use circuit::limits::LOG_CELLS;
 use circuit::limits::MAX_LIST_BYTES;
@@ -38,9 +38,10 @@ pub enum Answered {
 pub fn answer(text: &[u8], out: &mut [u8]) -> Answered
     ensures { λ r. ⌜ AnswerText (now (text .entry)) (now (out .entry)) (now (out .exit)) r ⌝ }
 {
-    if out.len() < REPLY_BYTES {
+    let fault = short_fault(out.len(), REPLY_BYTES);
+    if fault != 0 {
         return Answered::Refused {
-            number: LENT_OUTPUT,
+            number: fault,
             place: 0,
         };
     }

@@ -1,17 +1,16 @@
 -- The page to read: which texts are circuits, which fault any other has, and what the promise of `read_text` means.
-use mathlib.Core.Bool.{cond, false}
+use mathlib.Core.Bool.{false}
 use mathlib.Core.List.{List, [], _∷_, _++_}
 use mathlib.Core.Logic.{_⊎_, inl, inr}
 use mathlib.Core.Path.{_∙_, _≡_, ap, ap₂, refl, sym}
 use Prim.Native.Nat.{_%_, _*_, _+_, _/_, _<_, _≤_, ℕ}
-use native.Mathlib.Decide.{decLt}
+use native.Mathlib.Decide.{decLe}
 use native.Mathlib.Omega.{arith}
-use lib.Dec.{ltb}
 use lib.ListN.{drop, length, length-append, take}
 use lib.Seq.{take-append-seam}
-use borrow.Author.Tests.{eq-eqb, le-ltb, lt-leb, lt-ltb, ne-eqb}
+use borrow.Author.Tests.{eq-eqb, le-leb, lt-leb, ne-eqb}
 use Rattle.circuit.proofs.Placing.{placed-kept}
-use Rattle.circuit.specs.Faults.{lentOutput, listLength, malformed, wireCount, wiresFault}
+use Rattle.circuit.specs.Faults.{callReply, lentOutput, listLength, malformed, shortFault, wireCount, wiresFault}
 use Rattle.circuit.specs.Gate.{Gate, gate, gatesOf}
 use Rattle.circuit.specs.Lent.{KeptFrom}
 use Rattle.circuit.specs.Limits.{gateBytes, maxGates, maxListBytes, maxWires, maxWrittenGates}
@@ -28,7 +27,7 @@ use Rattle.text.specs.Hex.{hex2, hex4}
 use Rattle.text.specs.Limits.{countsLineBytes, gateDigits, gateLineBytes, refusedLineBytes, replyBytes, textBytes}
 use Rattle.text.specs.Limits.{byteValues, wiresDigits, wiresLineBytes}
 use Rattle.text.specs.Lines.{decoded, firstFormed, linesOf}
-use Rattle.text.specs.Text.{Sayable, Text, circuit, faulty, linesFault, readText}
+use Rattle.text.specs.Text.{Sayable, Text, circuit, faulty, linesFault, readText, unlessRefused}
 use Rattle.text.specs.Written.{countsLine, gateLine, gateLines, refusedLine, textOf, wiresLine}
 use Rattle.text.specs.declared.TextReply.{TextReply}
 use Rattle.text.specs.declared.TextReply.the-variants.{Done, Refused}
@@ -76,10 +75,19 @@ module _ (n : ℕ) (bytes rest : List ℕ) (is : Sayable n bytes) (more : 0 < le
       read-faulty (textOf n bytes ++ rest) listLength 0
       (circuit-pass n bytes is rest ∙ one-too-many rest 0 (length (gatesOf bytes)) more (omega (arith, length-gates bytes (is .whole))))
 
+-- ---- the call: 8 comes first, exactly where there is not room for every list
+
+module _ (lent : ℕ) (t : List ℕ) where
+  pub without-room : lent < maxListBytes → readInto lent t ≡ faulty lentOutput 0
+  without-room h = simp (lt-leb maxListBytes lent h)
+
+  pub with-room : maxListBytes ≤ lent → readInto lent t ≡ readText t
+  with-room h = simp (le-leb maxListBytes lent h)
+
 -- every fault's number is at most 9 and its place at most one more than the most gates, so two and four digits say them
 pub fault-small : (lent : ℕ) (t : List ℕ) (number place : ℕ) → readInto lent t ≡ faulty number place
     → (number ≤ malformed) × (place ≤ maxGates + 1)
-fault-small lent t number place e = go (decLt lent maxListBytes)
+fault-small lent t number place e = go (decLe maxListBytes lent)
   where
     same : (f p : ℕ) → faulty f p ≡ faulty number place → Small f p → Small number place
     same f p d h =
@@ -91,9 +99,9 @@ fault-small lent t number place e = go (decLt lent maxListBytes)
     of-text Judged f d = absurd (never number place _ _ (sym d ∙ read-circuit t f))
     of-text (Found x y) f d = same x y (sym (read-faulty t x y f) ∙ d) (faults-small t x y f)
 
-    go : Dec (lent < maxListBytes) → Small number place
-    go (yes h) = same lentOutput 0 (simp (lt-ltb lent maxListBytes h) at e) (omega arith)
-    go (no h) = of-text (linesFault (linesOf t)) refl (simp (le-ltb lent maxListBytes (omega arith)) at e)
+    go : Dec (maxListBytes ≤ lent) → Small number place
+    go (yes h) = of-text (linesFault (linesOf t)) refl (sym (with-room lent t h) ∙ e)
+    go (no h) = same lentOutput 0 (sym (without-room lent t (omega arith)) ∙ e) (omega arith)
 
 -- ---- the first bytes decide: 28,676 of them
 
@@ -107,7 +115,7 @@ first-bytes-decide t = sym (text-decided t)
 pub call-decided : (t gates gates′ : List ℕ) (r : TextReply) → ReadText (take textBytes t) gates gates′ r → ReadText t gates gates′ r
 call-decided t gates gates′ r c =
     let same : readInto (length gates) (take textBytes t) ≡ readInto (length gates) t =
-    ap (λ (x : Text). cond (ltb (length gates) maxListBytes) (faulty lentOutput 0) x) (text-decided t) in
+    ap (unlessRefused (callReply (shortFault (length gates) maxListBytes))) (text-decided t) in
     record { reply = c .reply ∙ ap replyOf same; gates-left = c .gates-left ∙ ap (λ (x : Text). gatesAfter x gates) same }
 
 -- ---- what the promise of `read_text` means
@@ -132,14 +140,8 @@ pub record CircuitRead (t gates gates′ : List ℕ) (n m : ℕ) : Type 0 where
   pub long : length (take (gateBytes * m) gates′) ≡ gateBytes * m
 
 pub done-reads : (t gates gates′ : List ℕ) (n m : ℕ) → ReadText t gates gates′ (Done n m) → CircuitRead t gates gates′ n m
-done-reads t gates gates′ n m c = go (decLt (length gates) maxListBytes)
+done-reads t gates gates′ n m c = go (decLe maxListBytes (length gates))
   where
-    text-said : maxListBytes ≤ length gates → readInto (length gates) t ≡ readText t
-    text-said h = simp (le-ltb (length gates) maxListBytes h)
-
-    lent-said : length gates < maxListBytes → readInto (length gates) t ≡ faulty lentOutput 0
-    lent-said h = simp (lt-ltb (length gates) maxListBytes h)
-
     of-text : maxListBytes ≤ length gates → (x : Text) → readText t ≡ x → Done n m ≡ replyOf x → gates′ ≡ gatesAfter x gates
         → CircuitRead t gates gates′ n m
     of-text h (faulty f p) e r l = absurd (refused-read f p n m (sym r))
@@ -157,11 +159,11 @@ done-reads t gates gates′ n m c = go (decLt (length gates) maxListBytes)
           long = ap length front ∙ sym d;
         }
 
-    go : Dec (length gates < maxListBytes) → CircuitRead t gates gates′ n m
-    go (yes h) = absurd (refused-read lentOutput 0 n m (sym (c .reply ∙ ap replyOf (lent-said h))))
-    go (no h) =
-        of-text (omega arith) (readText t) refl (c .reply ∙ ap replyOf (text-said (omega arith)))
-        (c .gates-left ∙ ap (λ (x : Text). gatesAfter x gates) (text-said (omega arith)))
+    go : Dec (maxListBytes ≤ length gates) → CircuitRead t gates gates′ n m
+    go (yes h) =
+        let r = with-room (length gates) t h in
+        of-text h (readText t) refl (c .reply ∙ ap replyOf r) (c .gates-left ∙ ap (λ (x : Text). gatesAfter x gates) r)
+    go (no h) = absurd (refused-read lentOutput 0 n m (sym (c .reply ∙ ap replyOf (without-room (length gates) t (omega arith)))))
 
 -- ---- the lines written
 

@@ -1,53 +1,53 @@
--- One law for each way out of the entry `read_text`: the tests that led there give the reply, and the lent gates are as it says.
+-- One law for each way out of the entry `read_text`, by what its judge found: the reply, and the lent gates as it says.
 use mathlib.Core.List.{List}
-use mathlib.Core.Path.{_∙_, _≡_, sym}
-use Prim.Native.Nat.{_+_, _/_, _<_, _≤_, ℕ}
+use mathlib.Core.Path.{_∙_, _≡_, ap, refl, sym}
+use Prim.Native.Nat.{_+_, _/_, _<_, _≤_, suc, zero, ℕ}
 use native.Mathlib.Omega.{arith}
 use lib.ListN.{length}
-use borrow.Author.Tests.{le-ltb, lt-ltb}
-use Rattle.circuit.specs.Faults.{lentOutput}
+use Rattle.circuit.proofs.Judging.{refuse-done, short-pass}
+use Rattle.circuit.specs.Faults.{callReply, refuse, shortFault}
 use Rattle.circuit.specs.Limits.{gateBytes, maxListBytes}
 use Rattle.circuit.specs.declared.Reply.{Reply}
 use Rattle.circuit.specs.declared.Reply.the-variants.{Done, Refused}
 use Rattle.text.proofs.Storing.{bytesFrom}
-use Rattle.text.proofs.TextFaults.{faultFrom, gates-done, one-formed-done, one-long, read-circuit, read-faulty}
-use Rattle.text.specs.Entry.{ReadText, readInto}
+use Rattle.text.proofs.TextFaults.{faultFrom, gates-done, one-formed-done, one-long, read-circuit}
+use Rattle.text.specs.Entry.{ReadText, readInto, readTextFault}
 use Rattle.text.specs.Limits.{wiresLineBytes}
 use Rattle.text.specs.Lines.{byteAt, linesOf}
 use Rattle.text.specs.Placed.{Stores}
-use Rattle.text.specs.Text.{Text, linesFault, readText}
+use Rattle.text.specs.Text.{Text, faulty, linesFault, linesSay, readText, unlessRefused}
 use Rattle.text.specs.declared.TextReply.the-variants.{Done as ReadDone, Refused as ReadRefused}
 
-pub lent-refused : (t g : List ℕ) → length g < maxListBytes → ReadText t g g (ReadRefused lentOutput 0)
-lent-refused t g h = record { reply = simp (lt-ltb (length g) maxListBytes h); gates-left = simp (lt-ltb (length g) maxListBytes h) }
+-- a text refused for the fault of the call, else for its own, is refused for the first of them
+joined : (f : ℕ) (found : Reply) (x : Text) → unlessRefused (callReply f) (unlessRefused found x) ≡ unlessRefused (refuse f 0 found) x
+joined zero found x = refl
+joined (suc f) found x = refl
 
--- there is room for every list, and this was found of the text
-pub record Judged (t g : List ℕ) (found : Reply) : Type 0 where
-  pub lent : maxListBytes ≤ length g
-  pub is : found ≡ linesFault (linesOf t)
+-- so what the call reads goes by what its judge finds
+by-fault : (lent : ℕ) (t : List ℕ) → readInto lent t ≡ unlessRefused (readTextFault lent t) (linesSay (linesOf t))
+unfolding readText
+by-fault lent t = joined (shortFault lent maxListBytes) (linesFault (linesOf t)) (linesSay (linesOf t))
 
-module _ {t g : List ℕ} {found : Reply} (j : Judged t g found) where
-  by-text : (x : Text) → readText t ≡ x → readInto (length g) t ≡ x
-  by-text x e = simp (le-ltb (length g) maxListBytes (j .lent)) e
-
+module _ (t g : List ℕ) {found : Reply} (judged : found ≡ readTextFault (length g) t) where
   pub text-refused : {number place : ℕ} → found ≡ Refused number place → ReadText t g g (ReadRefused number place)
   text-refused {number} {place} e =
-      let r = by-text _ (read-faulty t number place (sym (j .is) ∙ e)) in
+      let r : readInto (length g) t ≡ faulty number place =
+      by-fault (length g) t ∙ ap (λ (v : Reply). unlessRefused v (linesSay (linesOf t))) (sym judged ∙ e) in
       record { reply = rw r; gates-left = rw r }
 
   module _ (e : found ≡ Done) where
-    done : linesFault (linesOf t) ≡ Done
-    done = sym (j .is) ∙ e
+    passed : (shortFault (length g) maxListBytes ≡ 0) × (linesFault (linesOf t) ≡ Done)
+    passed = refuse-done (shortFault (length g) maxListBytes) 0 (linesFault (linesOf t)) (sym judged ∙ e)
 
     -- what reading n and storing ask
     pub one-there : 0 + 1 < length t
-    one-there = omega (arith, one-long t (one-formed-done t done))
+    one-there = omega (arith, one-long t (one-formed-done t (passed .1)))
 
     pub may-store : (maxListBytes ≤ length g) × (faultFrom t wiresLineBytes 0 ≡ Done)
-    may-store = (j .lent, gates-done t done)
+    may-store = (short-pass (length g) maxListBytes (passed .0), gates-done t (passed .1))
 
     pub text-read : {n m : ℕ} {g′ : List ℕ} → n ≡ byteAt t 0 → Stores g (bytesFrom t wiresLineBytes) g′ m → ReadText t g g′ (ReadDone n m)
     text-read {n} {m} {g′} h s =
-        let r = by-text _ (read-circuit t done) in
+        let r = ap (λ (f : ℕ). unlessRefused (callReply f) (readText t)) (passed .0) ∙ read-circuit t (passed .1) in
         let k : m ≡ length (bytesFrom t wiresLineBytes) / gateBytes = omega (arith, s .counted) in
         record { reply = rw (r, h, k); gates-left = rw r (s .stored) }

@@ -1,20 +1,24 @@
 -- The entry `read_text`: its reply and what it leaves in the lent gates, for every text and every lent length.
-use mathlib.Core.Bool.{cond}
 use mathlib.Core.List.{List}
 use mathlib.Core.Path.{_≡_}
 use Prim.Native.Nat.{_/_, ℕ}
-use lib.Dec.{ltb}
 use lib.ListN.{length}
-use Rattle.circuit.specs.Faults.{lentOutput}
+use Rattle.circuit.specs.Faults.{callReply, refuse, shortFault}
 use Rattle.circuit.specs.Limits.{gateBytes, maxListBytes}
 use Rattle.circuit.specs.Lent.{placed}
-use Rattle.text.specs.Text.{Text, circuit, faulty, readText}
+use Rattle.circuit.specs.declared.Reply.{Reply}
+use Rattle.text.specs.Lines.{linesOf}
+use Rattle.text.specs.Text.{Text, circuit, faulty, linesFault, readText, unlessRefused}
 use Rattle.text.specs.declared.TextReply.{TextReply}
 use Rattle.text.specs.declared.TextReply.the-variants.{Done, Refused}
 
 -- check 8, then the text: the lent gates must have room for every list
 abbrev pub readInto : ℕ → List ℕ → Text
-readInto lent text = cond (ltb lent maxListBytes) (faulty lentOutput 0) (readText text)
+readInto lent text = unlessRefused (callReply (shortFault lent maxListBytes)) (readText text)
+
+-- the first fault of the call, or none: 8, then that of the lines
+abbrev pub readTextFault : ℕ → List ℕ → Reply
+readTextFault lent text = refuse (shortFault lent maxListBytes) 0 (linesFault (linesOf text))
 
 -- the wire count and the number of gates, or the fault's number and place
 abbrev pub replyOf : Text → TextReply

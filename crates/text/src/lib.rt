@@ -8,11 +8,9 @@ pub mod lines;
 pub mod reading;
 
 use circuit::Reply;
-use circuit::faults::LENT_OUTPUT;
-use circuit::limits::MAX_LIST_BYTES;
 use reading::byte_at;
+use reading::read_text_fault;
 use reading::store_gates;
-use reading::text_fault;
 
 // The wire count and the number of gates, or document 01's number and place of the fault.
 pub enum TextReply {
@@ -24,13 +22,7 @@ pub enum TextReply {
 pub fn read_text(text: &[u8], gates: &mut [u8]) -> TextReply
     ensures { λ r. ⌜ ReadText (now (text .entry)) (now (gates .entry)) (now (gates .exit)) r ⌝ }
 {
-    if gates.len() < MAX_LIST_BYTES {
-        return TextReply::Refused {
-            number: LENT_OUTPUT,
-            place: 0,
-        };
-    }
-    let found = text_fault(text);
+    let found = read_text_fault(text, gates.len());
     if let Reply::Refused { number, place } = found {
         return TextReply::Refused {
             number: number,

@@ -5,6 +5,7 @@ ghost use lib.ListN.{drop, length};
 ghost use lib.Seq.{sets};
 ghost use Rattle.circuit.specs.Limits.{gateBytes, maxListBytes};
 ghost use Rattle.circuit.specs.declared.Reply.the-variants.{Done};
+ghost use Rattle.text.specs.Entry.{readTextFault};
 ghost use Rattle.text.specs.Limits.{gateDigits, wiresLineBytes};
 ghost use Rattle.text.specs.Lines.{byteAt, firstFormed, gateDecodedAt, linesDecoded, linesOf};
 ghost use Rattle.text.specs.Placed.{Stores};
@@ -19,12 +20,28 @@ use crate::limits::WIRES_LINE_BYTES;
 use circuit::Reply;
 use circuit::faults::LIST_LENGTH;
 use circuit::faults::MALFORMED;
+use circuit::faults::short_fault;
 use circuit::faults::wires_fault;
 use circuit::limits::GATE_BYTES;
 use circuit::limits::MAX_GATES;
+use circuit::limits::MAX_LIST_BYTES;
+
+// The first fault of a call: 8 by the length of the gates lent, then that of the text.
+pub fn read_text_fault(text: &[u8], lent: usize) -> Reply
+    ensures { λ r. ⌜ r ≡ readTextFault lent (now (text .entry)) ⌝ }
+{
+    let fault = short_fault(lent, MAX_LIST_BYTES);
+    if fault != 0 {
+        return Reply::Refused {
+            number: fault,
+            place: 0,
+        };
+    }
+    text_fault(text)
+}
 
 // The first fault of a text: of line one its form, then the count; then the gate lines.
-pub fn text_fault(text: &[u8]) -> Reply
+fn text_fault(text: &[u8]) -> Reply
     ensures { λ r. ⌜ r ≡ linesFault (linesOf (now (text .entry))) ⌝ }
 {
     if !line_formed(text, 0, WIRES_DIGITS) {

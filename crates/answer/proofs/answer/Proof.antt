@@ -1,24 +1,31 @@
 -- Too little room, and room enough.
+use mathlib.Core.Path.{_∙_, sym}
 use native.Mathlib.Omega.{arith}
+use lib.ListN.{length}
 use borrow.Author.Needs.{needs}
 use denote.Ref.{now}
-use Rattle.answer.proofs.AnswerWays.{answered, too-little-room}
+use Rattle.circuit.proofs.Judging.{short-pass}
+use Rattle.answer.proofs.AnswerWays.{answered, little-room, too-little-room}
 use Rattle.answer.proofs.answer.Statement.{statement}
 use Rattle.answer.proofs.answer.Tie as tie
 
 returns : tie.Need-returns
 returns c =
-    let start : tie.Start = search in
-    let a = start .args in
-    too-little-room (now (a .text)) (now (a .out)) (omega arith)
+    let f : tie.After-short-fault = search in
+    let s : tie.Start = search in
+    let h = little-room (length (now (s .args .out))) (f .short-fault .ensures) (omega arith) in
+    rw (h .1) (too-little-room _ _ (h .0))
+
+put-reply-requires : tie.Need-put-reply-requires
+put-reply-requires c κs =
+    let f : tie.After-short-fault = search in
+    short-pass _ _ (sym (f .short-fault .ensures) ∙ omega arith)
 
 returns-2 : tie.Need-returns-2
 returns-2 c =
-    let after-put-reply : tie.After-put-reply = search in
-    let else1 : tie.Else1 = search in
-    let start : tie.Start = search in
-    let a = start .args in
-    answered (now (a .text)) (now (a .out)) (omega (arith, else1 .if1 .left)) _ _ (after-put-reply .put-reply .ensures)
+    let p : tie.After-put-reply = search in
+    let f : tie.After-short-fault = search in
+    answered _ _ (short-pass _ _ (sym (f .short-fault .ensures) ∙ omega arith)) _ _ (p .put-reply .ensures)
 
 pub answer-spec : {M : Type 1} → statement M
-answer-spec = tie.close (tie.spec returns (λ c κs. search needs) (λ c. search needs) returns-2)
+answer-spec = tie.close (tie.spec (λ c κs. search needs) returns put-reply-requires (λ c. search needs) returns-2)
