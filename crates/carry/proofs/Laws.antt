@@ -4,9 +4,8 @@ use mathlib.Core.List.{List, []}
 use mathlib.Core.Logic.{_↔_, _≢_}
 use mathlib.Core.Path.{_∙_, _≡_, ap, refl}
 use Prim.Native.Nat.{_*_, _+_, _<_, _≤_, ℕ}
-use native.Mathlib.Omega.{arith}
 use lib.ListN.{drop, length, take}
-use Rattle.circuit.proofs.Judging.{refuse-done, refused}
+use Rattle.circuit.proofs.Judging.{refuse-done, refused, refused-not-done}
 use Rattle.circuit.specs.Faults.{badMove, refuse}
 use Rattle.circuit.specs.Limits.{maxMembers, moveCells}
 use Rattle.circuit.specs.declared.Reply.{Reply}
@@ -47,7 +46,7 @@ carry-accepts n marks cells = (
   where
     only-true : (t : Bool) → cond t Done (Refused badMove 0) ≡ Done → t ≡ true
     only-true true e = refl
-    only-true false e = let z : _≡_ {A = ℕ} 0 1 = cc in absurd (omega arith)
+    only-true false e = absurd (refused-not-done badMove 0 e)
 
 module _ (n : ℕ) (marks cells marks′ : List ℕ) (r : Reply) (promise : CarriesOut n marks cells marks′ r) where
   -- a refusal leaves the marks as they were

@@ -4,10 +4,9 @@ use mathlib.Core.List.{List}
 use mathlib.Core.Logic.{_↔_, _≢_, inl, inr}
 use mathlib.Core.Path.{_∙_, _≡_, ap, refl, sym}
 use Prim.Native.Nat.{_<_, _^_, _≤_, ℕ}
-use native.Mathlib.Omega.{arith}
 use lib.ListN.{length}
 use lib.Pow.{pow-mono}
-use Rattle.circuit.proofs.Judging.{lent-well, refused}
+use Rattle.circuit.proofs.Judging.{lent-well, refused, refused-not-done}
 use Rattle.circuit.proofs.TableRule.{call-passes, marks-sound, passes-call}
 use Rattle.circuit.specs.Faults.{badMove, lentFault, refuse}
 use Rattle.circuit.specs.Limits.{maxMembers, maxWires, parities, tableBytes}
@@ -24,9 +23,6 @@ use Rattle.moves.specs.Decide.{isMove}
 use Rattle.moves.specs.Log.{LegalCells, MoveForm, setOf, zOf}
 use Rattle.carry.proofs.Conditions.{legal-said, members-below, separates-below}
 use Rattle.carry.specs.Entry.{CarriesOut, carryFault, carryReply}
-
-not-done : {P : Type 0} (number place : ℕ) → Refused number place ≡ Done → P
-not-done number place e = let z : _≡_ {A = ℕ} 0 1 = cc in absurd (omega arith)
 
 -- the reply where the checks of the call pass
 judge : ℕ → List ℕ → List ℕ → Reply
@@ -55,9 +51,9 @@ call-refused {n} {f} {m} {b} e h =
       reply = sym (refused f 0 (judge n m b) h) ∙ ap (λ (x : ℕ). refuse x 0 (judge n m b)) e;
       judged = λ z. absurd (h (e ∙ z));
       marks-left = refl;
-      signature = not-done f 0;
-      sound = not-done f 0;
-      smaller = not-done f 0;
+      signature = λ d. absurd (refused-not-done f 0 d);
+      sound = λ d. absurd (refused-not-done f 0 d);
+      smaller = λ d. absurd (refused-not-done f 0 d);
     }
 
 -- ---- the move
@@ -86,9 +82,9 @@ module _ {n : ℕ} {m : List ℕ} (called : Called n m) where
         reply = ap (λ (x : Bool). cond x Done (Refused badMove 0)) (sym (move-no maxMembers n m b none)) ∙ by-move b;
         judged = λ z. inr (refl, none);
         marks-left = refl;
-        signature = not-done badMove 0;
-        sound = not-done badMove 0;
-        smaller = not-done badMove 0;
+        signature = λ d. absurd (refused-not-done badMove 0 d);
+        sound = λ d. absurd (refused-not-done badMove 0 d);
+        smaller = λ d. absurd (refused-not-done badMove 0 d);
       }
 
   pub move-done : {z : ℕ} {b Y m′ : List ℕ} → LegalCells maxMembers maxWires m b → z ≡ zOf b → Y ≡ setOf b → m′ ≡ carryOut m z Y
