@@ -6,12 +6,11 @@ use Prim.Native.Nat.{_*_, _+_, _/_, _≤_, ℕ}
 use native.Mathlib.Decide.{ℕ-discrete}
 use lib.ListN.{length}
 use Rattle.circuit.proofs.Judging.{lent-pass, lent-well}
-use Rattle.circuit.proofs.TableRule.{call-passes, marks-sound, passes-call}
+use Rattle.circuit.proofs.TableRule.{marks-passes}
 use Rattle.circuit.specs.Faults.{lentFault}
 use Rattle.circuit.specs.Limits.{maxMembers, maxWires, moveCells, parities}
 use Rattle.circuit.specs.OddSet.{members}
 use Rattle.circuit.specs.Sound.{SoundMarks}
-use Rattle.circuit.specs.TableFaults.{marksFault}
 use Rattle.moves.proofs.Laws.{limits-suffice, none-legal-bound}
 use Rattle.moves.specs.Move.{Legal, NoneLegal}
 use Rattle.finder.specs.Entry.{Answers, FindMove, findFault, numberOf, placeOf}
@@ -28,10 +27,10 @@ pub record Sound (n : ℕ) (marks : List ℕ) (cells : ℕ) : Type 0 where
 -- nothing sound is refused, nothing faulty is accepted
 pub find-accepts : (n : ℕ) (marks : List ℕ) (cells : ℕ) → (findFault n marks cells ≡ 0) ↔ Sound n marks cells
 find-accepts n marks cells = (
-  λ e. let a = call-passes n (lentFault cells moveCells) (marksFault n marks) e in
-      record { some = a .0; few = a .1; long = lent-pass cells moveCells (a .2); marked = marks-sound parities n marks .0 (a .3) },
-  λ s. passes-call n (lentFault cells moveCells) (marksFault n marks) (s .some) (s .few) (lent-well cells moveCells (s .long))
-      (marks-sound parities n marks .1 (s .marked)),
+  λ e. let a = marks-passes n (lentFault cells moveCells) marks .0 e in
+      record { some = a .0 .some; few = a .0 .few; long = lent-pass cells moveCells (a .1); marked = a .0 .sound },
+  λ s. marks-passes n (lentFault cells moveCells) marks .1
+      (record { some = s .some; few = s .few; sound = s .marked }, lent-well cells moveCells (s .long)),
 )
 
 -- there is a legal move

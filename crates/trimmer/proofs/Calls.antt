@@ -4,6 +4,7 @@ use mathlib.Core.Path.{_≡_}
 use Prim.Native.Nat.{ℕ}
 use Rattle.carry.proofs.Conditions.{legal-said}
 use Rattle.circuit.specs.Limits.{maxMembers, maxWires, parities}
+use Rattle.circuit.specs.TableFaults.{Marked}
 use Rattle.finder.proofs.OnWires.{searched-legal, searched-none}
 use Rattle.finder.specs.Search.{Searched}
 use Rattle.moves.proofs.Wires.{legal-wires}
@@ -11,7 +12,7 @@ use Rattle.moves.specs.Log.{LegalCells, MoveForm}
 use Rattle.moves.specs.Move.{NoneLegal}
 use Rattle.moves.specs.declared.Sought.{Sought}
 use Rattle.moves.specs.declared.Sought.the-variants.{Found, Nothing}
-use Rattle.trimmer.specs.Steps.{Marked, NextMove}
+use Rattle.trimmer.specs.Steps.{NextMove}
 
 -- the cells of a legal move have the form of one
 pub legal-form : {n : ℕ} {marks cells : List ℕ} → LegalCells maxMembers n marks cells → MoveForm maxMembers cells
