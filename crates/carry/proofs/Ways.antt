@@ -16,7 +16,7 @@ use Rattle.circuit.specs.declared.Reply.the-variants.{Done, Refused}
 use Rattle.gf2.specs.Over.{Below}
 use Rattle.moves.proofs.Deciding.{move-no, move-yes}
 use Rattle.moves.proofs.Laws.{move-keeps-signature, move-leaves-sound, move-shrinks}
-use Rattle.moves.proofs.Wires.{legal-wires}
+use Rattle.moves.proofs.Wires.{cells-wires}
 use Rattle.moves.specs.CarryOut.{carryOut}
 use Rattle.moves.specs.Decide.{isMove}
 use Rattle.moves.specs.Log.{LegalCells, MoveForm, setOf, zOf}
@@ -56,20 +56,13 @@ module _ {n : ℕ} {m : List ℕ} (marked : Marked n m) where
   by-move b = ap (λ (x : ℕ). refuse x 0 (judge n m b)) (sym (call-clear n m .1 marked))
 
   -- the code judges on all wires
-  on-all : {b : List ℕ} → LegalCells maxMembers n m b → LegalCells maxMembers maxWires m b
-  on-all g =
-      let same = legal-wires parities n maxWires maxMembers m (marked .few) (marked .sound) (g .z) (g .Y) in
-      record { z = g .z; Y = g .Y; is = g .is; legal = same .0 (g .legal) }
-
-  on-these : {b : List ℕ} → LegalCells maxMembers maxWires m b → LegalCells maxMembers n m b
-  on-these g =
-      let same = legal-wires parities n maxWires maxMembers m (marked .few) (marked .sound) (g .z) (g .Y) in
-      record { z = g .z; Y = g .Y; is = g .is; legal = same .1 (g .legal) }
+  on-all : (b : List ℕ) → LegalCells maxMembers n m b ↔ LegalCells maxMembers maxWires m b
+  on-all = cells-wires parities n maxWires maxMembers m (marked .few) (marked .sound)
 
   pub move-refused : {b : List ℕ} → (LegalCells maxMembers maxWires m b → ⊥) → CarriesOut n m b m (Refused badMove 0)
   unfolding judge
   move-refused {b} h =
-      let none : LegalCells maxMembers n m b → ⊥ = λ g. h (on-all g) in
+      let none : LegalCells maxMembers n m b → ⊥ = λ g. h (on-all b .0 g) in
       record {
         reply = ap (λ (x : Bool). cond x Done (Refused badMove 0)) (sym (move-no maxMembers n m b none)) ∙ by-move b;
         judged = λ z. inr (refl, none);
@@ -83,7 +76,7 @@ module _ {n : ℕ} {m : List ℕ} (marked : Marked n m) where
       → CarriesOut n m b m′ Done
   unfolding judge
   move-done {z} {b} {Y} {m′} g d e p =
-      let legal = on-these g in
+      let legal = on-all b .1 g in
       let said = legal-said maxMembers n m b legal .1 in
       let room : 2 ^ n ≤ parities = pow-mono {i = n} {j = maxWires} (marked .few) in
       let q : m′ ≡ carryOut m (zOf b) (setOf b) = rw (← d, ← e) p in

@@ -7,11 +7,12 @@ use lib.ListN.{length}
 use Rattle.circuit.proofs.Judging.{lent-pass}
 use Rattle.circuit.proofs.TableRule.{marks-passes}
 use Rattle.circuit.specs.Faults.{lentFault}
-use Rattle.circuit.specs.Limits.{maxWires, moveCells, parities}
+use Rattle.circuit.specs.Limits.{maxMembers, maxWires, moveCells, parities}
 use Rattle.circuit.specs.Sound.{SoundMarks}
 use Rattle.circuit.specs.TableFaults.{Marked}
+use Rattle.moves.proofs.Wires.{cells-wires}
 use Rattle.moves.specs.declared.Sought.the-variants.{Found as Got, Nothing as None}
-use Rattle.finder.proofs.OnWires.{searchable, searched-legal, searched-none}
+use Rattle.finder.proofs.OnWires.{searchable, searched-none}
 use Rattle.finder.specs.Entry.{FindMove, findFault}
 use Rattle.finder.specs.Search.{Searched}
 use Rattle.finder.specs.declared.Finding.the-variants.{Found, Nothing, Refused}
@@ -32,7 +33,7 @@ module _ (n : ℕ) (marks cells : List ℕ) (f : ℕ) (judged : f ≡ findFault 
     find-found cells′ s =
         record {
           refuses = λ g. absurd (g (sym judged ∙ clear));
-          answers = λ e. searched-legal n (passed .0 .few) marks (passed .0 .sound) cells′ s;
+          answers = λ e. cells-wires parities n maxWires maxMembers marks (passed .0 .few) (passed .0 .sound) cells′ .1 s;
         }
 
     pub find-nothing : (cells′ : List ℕ) → Searched marks cells cells′ None → FindMove n marks cells cells′ Nothing
