@@ -16,11 +16,12 @@ use Rattle.circuit.specs.declared.Reply.the-variants.{Done, Refused}
 use Rattle.gf2.specs.Over.{Below}
 use Rattle.moves.proofs.Deciding.{move-no, move-yes}
 use Rattle.moves.proofs.Laws.{move-keeps-signature, move-leaves-sound, move-shrinks}
+use Rattle.moves.proofs.Logs.{cells-checked}
 use Rattle.moves.proofs.Wires.{cells-wires}
 use Rattle.moves.specs.CarryOut.{carryOut}
 use Rattle.moves.specs.Decide.{isMove}
-use Rattle.moves.specs.Log.{LegalCells, MoveForm, setOf, zOf}
-use Rattle.carry.proofs.Conditions.{legal-said, members-below, separates-below}
+use Rattle.moves.specs.Log.{LegalCells, setOf, zOf}
+use Rattle.carry.proofs.Conditions.{members-below, separates-below}
 use Rattle.carry.specs.Entry.{CarriesOut, carryFault, carryReply}
 
 -- the reply where the checks of the call pass
@@ -77,7 +78,7 @@ module _ {n : ℕ} {m : List ℕ} (marked : Marked n m) where
   unfolding judge
   move-done {z} {b} {Y} {m′} g d e p =
       let legal = on-all b .1 g in
-      let said = legal-said maxMembers n m b legal .1 in
+      let said = cells-checked maxMembers n m b .0 legal .1 in
       let room : 2 ^ n ≤ parities = pow-mono {i = n} {j = maxWires} (marked .few) in
       let q : m′ ≡ carryOut m (zOf b) (setOf b) = rw (← d, ← e) p in
       record {
@@ -92,13 +93,10 @@ module _ {n : ℕ} {m : List ℕ} (marked : Marked n m) where
 -- ---- what carrying it out takes
 
 module _ {m b : List ℕ} (legal : LegalCells maxMembers maxWires m b) where
-  pub move-form : MoveForm maxMembers b
-  move-form = legal-said maxMembers maxWires m b legal .0
-
   -- z and Y, as code takes them from the cells, are parities
   pub may-carry : {z : ℕ} {Y : List ℕ} → length m ≡ tableBytes → z ≡ zOf b → Y ≡ setOf b
       → (length m ≡ tableBytes) × (z < parities) × Below parities Y
   may-carry long d e =
-      let said = legal-said maxMembers maxWires m b legal .1 in
+      let said = cells-checked maxMembers maxWires m b .0 legal .1 in
       let marked = said .marked in
       rw (d, e) (long, separates-below maxWires m (setOf b) long marked (said .separates), members-below maxWires m (setOf b) long marked)

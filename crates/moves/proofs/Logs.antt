@@ -86,25 +86,20 @@ said-cells most (z ∷ c ∷ rest) form =
         (λ i l. getD-drop c rest i 0 ∙ form .zeros (suc (suc (c + i))) (omega arith) (omega (arith, length-drop c rest))
         ∙ sym (getD-zeros (most - c) i))
 
--- what code can look at where cells are to be a legal move: their form, and the move that they say
-pub record Checked (most n : ℕ) (marks cells : List ℕ) : Type 0 where
-  pub form : MoveForm most cells
-  pub legal : Legal most n marks (zOf cells) (setOf cells)
-
-pub cells-checked : (most n : ℕ) (marks cells : List ℕ) → LegalCells most n marks cells ↔ Checked most n marks cells
+-- cells are a legal move exactly if they have the form of one and the move that they say is legal: code can look at these
+pub cells-checked : (most n : ℕ) (marks cells : List ℕ)
+    → LegalCells most n marks cells ↔ (MoveForm most cells × Legal most n marks (zOf cells) (setOf cells))
 cells-checked most n marks cells = (
   λ f. let s = cells-say most (f .z) (f .Y) cells (f .is) in
-      let c : getD cells 1 0 ≡ length (f .Y) = ap (λ (b : List ℕ). getD b 1 0) (f .is) ∙ cells-count most (f .z) (f .Y) in
-      record {
-        form =
-            record {
-              long = ap length (f .is) ∙ cells-length most (f .z) (f .Y) (f .legal .few);
-              few = omega (arith, f .legal .few);
-              zeros = λ i l h. ap (λ (b : List ℕ). getD b i 0) (f .is) ∙ cells-rest most (f .z) (f .Y) i (omega arith);
-            };
-        legal = rw (s .0, s .1) (f .legal);
-      },
-  λ h. record { z = zOf cells; Y = setOf cells; is = said-cells most cells (h .form); legal = h .legal },
+      let c : getD cells 1 0 ≡ length (f .Y) = ap (λ (b : List ℕ). getD b 1 0) (f .is) ∙ cells-count most (f .z) (f .Y) in (
+        record {
+          long = ap length (f .is) ∙ cells-length most (f .z) (f .Y) (f .legal .few);
+          few = omega (arith, f .legal .few);
+          zeros = λ i l h. ap (λ (b : List ℕ). getD b i 0) (f .is) ∙ cells-rest most (f .z) (f .Y) i (omega arith);
+        },
+        rw (s .0, s .1) (f .legal),
+      ),
+  λ h. record { z = zOf cells; Y = setOf cells; is = said-cells most cells (h .0); legal = h .1 },
 )
 
 -- ---- a log

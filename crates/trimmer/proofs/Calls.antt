@@ -1,22 +1,17 @@
--- What the calls for each move ask for and leave: what was searched on all wires holds on n, and the cells found have the form of a move.
+-- What the search for each move leaves: what it says on all wires holds on n, and what the loop's test then tells.
 use mathlib.Core.List.{List}
 use mathlib.Core.Path.{_≡_}
 use Prim.Native.Nat.{ℕ}
-use Rattle.carry.proofs.Conditions.{legal-said}
 use Rattle.circuit.specs.Limits.{maxMembers, maxWires, parities}
 use Rattle.circuit.specs.TableFaults.{Marked}
 use Rattle.finder.proofs.OnWires.{searched-none}
 use Rattle.finder.specs.Search.{Searched}
 use Rattle.moves.proofs.Wires.{cells-wires}
-use Rattle.moves.specs.Log.{LegalCells, MoveForm}
+use Rattle.moves.specs.Log.{LegalCells}
 use Rattle.moves.specs.Move.{NoneLegal}
 use Rattle.moves.specs.declared.Sought.{Sought}
 use Rattle.moves.specs.declared.Sought.the-variants.{Found, Nothing}
 use Rattle.trimmer.specs.Steps.{NextMove}
-
--- the cells of a legal move have the form of one
-pub legal-form : {n : ℕ} {marks cells : List ℕ} → LegalCells maxMembers n marks cells → MoveForm maxMembers cells
-legal-form {n} {marks} {cells} f = legal-said maxMembers n marks cells f .0
 
 pub searched-next : {n : ℕ} {marks : List ℕ} (was cells : List ℕ) → Marked n marks → (found : Sought) → Searched marks was cells found
     → NextMove n marks found cells

@@ -5,8 +5,9 @@ use native.Mathlib.Omega.{arith}
 use borrow.Author.Needs.{needs}
 use denote.Ref.{now}
 use Rattle.circuit.specs.TableFaults.{Marked, callFault, marksFault}
+use Rattle.moves.proofs.Logs.{cells-checked}
 use Rattle.carry.proofs.Deciding.{denied, granted}
-use Rattle.carry.proofs.Ways.{call-clear, call-refused, may-carry, move-done, move-form, move-refused}
+use Rattle.carry.proofs.Ways.{call-clear, call-refused, may-carry, move-done, move-refused}
 use Rattle.carry.specs.Entry.{carryFault}
 use Rattle.carry.proofs.carry_out.Statement.{statement}
 use Rattle.carry.proofs.carry_out.Tie as tie
@@ -38,12 +39,12 @@ returns-2 c =
 cell-at-requires : tie.Need-cell-at-requires
 cell-at-requires c κs =
     let m : tie.After-is-move = search in
-    omega (arith, move-form (granted (m .is-move .ensures) (search)) .long)
+    omega (arith, cells-checked _ _ _ _ .0 (granted (m .is-move .ensures) (search)) .0 .long)
 
 set-of-requires : tie.Need-set-of-requires
 set-of-requires c κs =
     let m : tie.After-is-move = search in
-    move-form (granted (m .is-move .ensures) (search))
+    cells-checked _ _ _ _ .0 (granted (m .is-move .ensures) (search)) .0
 
 carry-requires : tie.Need-carry-requires
 carry-requires c κs =

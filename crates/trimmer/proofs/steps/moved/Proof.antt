@@ -3,14 +3,14 @@ use mathlib.Core.Path.{_∙_, ap₂}
 use borrow.Author.Needs.{needs}
 use Rattle.carry.proofs.Ways.{may-carry}
 use Rattle.circuit.specs.Limits.{maxWires}
+use Rattle.moves.proofs.Logs.{cells-checked}
 use Rattle.moves.proofs.Wires.{cells-wires}
 use Rattle.moves.specs.CarryOut.{carryOut}
-use Rattle.trimmer.proofs.Calls.{legal-form}
 use Rattle.trimmer.proofs.steps.moved.Statement.{statement}
 use Rattle.trimmer.proofs.steps.moved.Tie as tie
 
 set-of-requires : tie.Need-set-of-requires
-set-of-requires c κs = let s : tie.Start = search in legal-form (s .pre .1)
+set-of-requires c κs = let s : tie.Start = search in cells-checked _ _ _ _ .0 (s .pre .1) .0
 
 carry-requires : tie.Need-carry-requires
 carry-requires c κs =
