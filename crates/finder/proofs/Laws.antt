@@ -12,7 +12,7 @@ use Rattle.circuit.specs.Limits.{maxMembers, maxWires, moveCells, parities}
 use Rattle.circuit.specs.OddSet.{members}
 use Rattle.circuit.specs.Sound.{SoundMarks}
 use Rattle.moves.proofs.Laws.{limits-suffice, none-legal-bound}
-use Rattle.moves.specs.Move.{Legal, NoneLegal}
+use Rattle.moves.specs.Move.{Movable, NoneLegal}
 use Rattle.finder.specs.Entry.{Answers, FindMove, findFault, numberOf, placeOf}
 use Rattle.finder.specs.declared.Finding.{Finding}
 use Rattle.finder.specs.declared.Finding.the-variants.{Found, Nothing, Refused}
@@ -33,14 +33,10 @@ find-accepts n marks cells = (
       (record { some = s .some; few = s .few; sound = s .marked }, lent-well cells moveCells (s .long)),
 )
 
--- there is a legal move
-abbrev pub Movable : ℕ → List ℕ → Type 0
-Movable n marks = (z : ℕ) × (Y : List ℕ) × Legal maxMembers n marks z Y
-
 module _ (n : ℕ) (marks cells cells′ : List ℕ) where
-  answer-found : (r : Finding) → Answers n marks cells cells′ r → Movable n marks → r ≡ Found
+  answer-found : (r : Finding) → Answers n marks cells cells′ r → Movable maxMembers n marks → r ≡ Found
   answer-found Found a m = refl
-  answer-found Nothing a m = absurd (a .1 (m .0) (m .1) (m .2))
+  answer-found Nothing a m = absurd (a .1 (m .z) (m .Y) (m .legal))
   answer-found (Refused number place) a m = absurd a
 
   answer-none : (r : Finding) → Answers n marks cells cells′ r → NoneLegal maxMembers n marks → r ≡ Nothing
@@ -80,8 +76,11 @@ module _ (n : ℕ) (marks cells cells′ : List ℕ) where
       answered = h .answers (find-accepts n marks (length cells) .1 sound)
 
       -- a move is found exactly where there is one, and none exactly where there is none
-      pub found-exactly : (r ≡ Found) ↔ Movable n marks
-      found-exactly = (λ e. let a = subst (Answers n marks cells cells′) e answered in (a .z, a .Y, a .legal), answer-found r answered)
+      pub found-exactly : (r ≡ Found) ↔ Movable maxMembers n marks
+      found-exactly = (
+        λ e. let a = subst (Answers n marks cells cells′) e answered in record { z = a .z; Y = a .Y; legal = a .legal },
+        answer-found r answered,
+      )
 
       pub none-exactly : (r ≡ Nothing) ↔ NoneLegal maxMembers n marks
       none-exactly = (λ e. let a = subst (Answers n marks cells cells′) e answered in a .1, answer-none r answered)

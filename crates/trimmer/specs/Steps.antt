@@ -17,8 +17,8 @@ abbrev pub NextMove : ℕ → List ℕ → Sought → List ℕ → Type 0
 NextMove n marks Found cells = LegalCells maxMembers n marks cells
 NextMove n marks Nothing cells = NoneLegal maxMembers n marks
 
--- a move was found, and there is another for which the count has room
-pub record Movable (n : ℕ) (marks : List ℕ) (found : Sought) (cells : List ℕ) (count : ℕ) : Type 0 where
+-- a move was found, and the count has room for it
+pub record ToMake (n : ℕ) (marks : List ℕ) (found : Sought) (cells : List ℕ) (count : ℕ) : Type 0 where
   pub marked : Marked n marks
   pub next : NextMove n marks found cells
   pub is-found : found ≡ Found
