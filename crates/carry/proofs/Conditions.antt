@@ -9,6 +9,7 @@ use native.Mathlib.Omega.{arith}
 use lib.Bits.{xor-lt}
 use lib.ListN.{List·getD-eq-default, drop, getD, length, length-drop}
 use lib.Seq.{length-take-le}
+use Rattle.circuit.specs.Limits.{moveHead}
 use Rattle.gf2.proofs.Pairing.{xor-equal}
 use Rattle.gf2.specs.Over.{Below}
 use Rattle.moves.proofs.Logs.{cells-checked}
@@ -41,7 +42,7 @@ pub separates-some : {marks Y : List ℕ} {z : ℕ} → Separates marks z Y → 
 separates-some s e = s .b-out (rw (← (xor-equal (s .a) (s .b) (sym (s .z-is) ∙ e))) (s .a-in))
 
 pub set-few : {most : ℕ} {cells : List ℕ} → MoveForm most cells → length (setOf cells) ≤ most
-set-few {cells = cells} f = rw (length-take-le (getD cells 1 0) (drop 2 cells) (omega (arith, length-drop 2 cells))) (f .few)
+set-few {cells = cells} f = rw (length-take-le (getD cells 1 0) (drop moveHead cells) (omega (arith, length-drop moveHead cells))) (f .few)
 
 -- for cells of the form, the move decides; z and Y are what code takes from the cells
 pub move-if-legal : {most n z : ℕ} {marks cells Y : List ℕ} {r : Bool} → MoveForm most cells → z ≡ zOf cells → Y ≡ setOf cells

@@ -9,6 +9,7 @@ use lib.ListN.{drop, getD, length, length-append, length-drop, length-replicate,
 use lib.Seq.{drop-at, ext-getD, getD-append-add, getD-drop, length-take-le, set-append-seam, take-add, take-append-seam, take-at, take-take}
 use borrow.Author.Tests.{le-leb, lt-leb}
 use Rattle.circuit.specs.Lent.{placed}
+use Rattle.circuit.specs.Limits.{moveHead}
 use Rattle.gf2.proofs.Table.{getD-zeros}
 use Rattle.moves.specs.Log.{LegalCells, MoveForm, asCells, logged, moveAt, setOf, zOf}
 use Rattle.moves.specs.Move.{Legal}
@@ -24,19 +25,19 @@ module _ (most z : ℕ) (Y : List ℕ) where
   unfolding asCells
   cells-count = refl
 
-  pub cells-set : take (length Y) (drop 2 (asCells most z Y)) ≡ Y
+  pub cells-set : take (length Y) (drop moveHead (asCells most z Y)) ≡ Y
   unfolding asCells
   cells-set = take-append-seam Y (replicate (most - length Y) 0)
 
-  pub cells-length : length Y ≤ most → length (asCells most z Y) ≡ most + 2
+  pub cells-length : length Y ≤ most → length (asCells most z Y) ≡ most + moveHead
   unfolding asCells
   cells-length h = omega (arith, length-append Y (replicate (most - length Y) 0), length-replicate {A = ℕ} (most - length Y) 0)
 
   -- zeros after Y
-  pub cells-rest : (i : ℕ) → length Y + 2 ≤ i → getD (asCells most z Y) i 0 ≡ 0
+  pub cells-rest : (i : ℕ) → length Y + moveHead ≤ i → getD (asCells most z Y) i 0 ≡ 0
   unfolding asCells
   cells-rest i h =
-      let j : ℕ = i - (length Y + 2) in
+      let j : ℕ = i - (length Y + moveHead) in
       let e : i ≡ suc (suc (length Y + j)) = omega arith in
       rw e (getD-append-add Y (replicate (most - length Y) 0) j 0 ∙ getD-zeros (most - length Y) j)
 
@@ -46,12 +47,12 @@ unfolding asCells
 cells-none most z = let e : most - 0 ≡ most = omega arith in rw e
 
 pub cells-more : (most z : ℕ) (Y : List ℕ) (y : ℕ) → length Y < most
-    → set (set (asCells most z Y) (length Y + 2) y) 1 (length Y + 1) ≡ asCells most z (Y ++ (y ∷ []))
+    → set (set (asCells most z Y) (length Y + moveHead) y) 1 (length Y + 1) ≡ asCells most z (Y ++ (y ∷ []))
 unfolding asCells
 cells-more most z Y y h =
     let d : ℕ = most - suc (length Y) in
     let e : most - length Y ≡ suc d = omega arith in
-    let place : length Y + 2 ≡ suc (suc (length Y)) = omega arith in
+    let place : length Y + moveHead ≡ suc (suc (length Y)) = omega arith in
     let more : length (Y ++ (y ∷ [])) ≡ length Y + 1 = length-append Y (y ∷ []) in
     let left : most - (length Y + 1) ≡ d = omega arith in
     rw (e, place, more, left, set-append-seam Y 0 (replicate d 0) y, append-assoc Y (y ∷ []) (replicate d 0))
@@ -59,9 +60,8 @@ cells-more most z Y y h =
 -- the cells of a move say that move
 pub cells-say : (most z : ℕ) (Y cells : List ℕ) → cells ≡ asCells most z Y → (zOf cells ≡ z) × (setOf cells ≡ Y)
 cells-say most z Y cells e = (
-  ap (λ (f : List ℕ). getD f 0 0) e ∙ cells-z most z Y,
-  ap (λ (f : List ℕ). take (getD f 1 0) (drop 2 f)) e ∙ ap (λ (c : ℕ). take c (drop 2 (asCells most z Y))) (cells-count most z Y)
-      ∙ cells-set most z Y,
+  ap zOf e ∙ cells-z most z Y,
+  ap setOf e ∙ ap (λ (c : ℕ). take c (drop moveHead (asCells most z Y))) (cells-count most z Y) ∙ cells-set most z Y,
 )
 
 -- and no other
