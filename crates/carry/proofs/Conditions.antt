@@ -9,6 +9,7 @@ use native.Mathlib.Omega.{arith}
 use lib.Bits.{xor-lt}
 use lib.ListN.{List·getD-eq-default, drop, getD, length, length-drop}
 use lib.Seq.{length-take-le}
+use Rattle.circuit.specs.Limits.{moveHead}
 use Rattle.gf2.proofs.Pairing.{xor-equal}
 use Rattle.gf2.specs.Over.{Below}
 use Rattle.moves.proofs.Logs.{cells-checked}
@@ -41,18 +42,11 @@ pub separates-some : {marks Y : List ℕ} {z : ℕ} → Separates marks z Y → 
 separates-some s e = s .b-out (rw (← (xor-equal (s .a) (s .b) (sym (s .z-is) ∙ e))) (s .a-in))
 
 pub set-few : {most : ℕ} {cells : List ℕ} → MoveForm most cells → length (setOf cells) ≤ most
-set-few {cells = cells} f = rw (length-take-le (getD cells 1 0) (drop 2 cells) (omega (arith, length-drop 2 cells))) (f .few)
-
--- cells are a legal move exactly if they have the form of one and the move that they say is legal
-module _ (most n : ℕ) (marks cells : List ℕ) where
-  pub said-legal : MoveForm most cells → Legal most n marks (zOf cells) (setOf cells) → LegalCells most n marks cells
-  said-legal f g = cells-checked most n marks cells .1 (record { form = f; legal = g })
-
-  pub legal-said : LegalCells most n marks cells → MoveForm most cells × Legal most n marks (zOf cells) (setOf cells)
-  legal-said g = let h = cells-checked most n marks cells .0 g in (h .form, h .legal)
+set-few {cells = cells} f = rw (length-take-le (getD cells 1 0) (drop moveHead cells) (omega (arith, length-drop moveHead cells))) (f .few)
 
 -- for cells of the form, the move decides; z and Y are what code takes from the cells
 pub move-if-legal : {most n z : ℕ} {marks cells Y : List ℕ} {r : Bool} → MoveForm most cells → z ≡ zOf cells → Y ≡ setOf cells
     → Decides r (Legal most n marks z Y) → Decides r (LegalCells most n marks cells)
 move-if-legal {most} {n} {z} {marks} {cells} f d e =
-    decides-as (λ g. said-legal most n marks cells f (rw (← d, ← e) g)) (λ g. rw (d, e) (legal-said most n marks cells g .1))
+    let said = cells-checked most n marks cells in
+    decides-as (λ g. said .1 (f, rw (← d, ← e) g)) (λ g. rw (d, e) (said .0 g .1))

@@ -4,11 +4,11 @@ use mathlib.Core.List.{List, []}
 use mathlib.Core.Logic.{_↔_, _≢_}
 use mathlib.Core.Path.{_∙_, _≡_, ap, refl}
 use Prim.Native.Nat.{_*_, _+_, _<_, _≤_, ℕ}
-use native.Mathlib.Omega.{arith}
 use lib.ListN.{drop, length, take}
-use Rattle.circuit.proofs.Judging.{refuse-done, refused}
+use Rattle.circuit.proofs.Judging.{refuse-done, refused, refused-not-done}
 use Rattle.circuit.specs.Faults.{badMove, refuse}
 use Rattle.circuit.specs.Limits.{maxMembers, moveCells}
+use Rattle.circuit.specs.TableFaults.{Marked}
 use Rattle.circuit.specs.declared.Reply.{Reply}
 use Rattle.circuit.specs.declared.Reply.the-variants.{Done, Refused}
 use Rattle.moves.proofs.Deciding.{move-is, move-yes}
@@ -16,7 +16,7 @@ use Rattle.moves.proofs.Logs.{cells-say, move-short, move-whole}
 use Rattle.moves.specs.Decide.{isMove}
 use Rattle.moves.specs.Log.{LegalCells, asCells, moveAt, setOf, zOf}
 use Rattle.moves.specs.Move.{Legal}
-use Rattle.carry.proofs.Ways.{Called, call-clear}
+use Rattle.carry.proofs.Ways.{call-clear}
 use Rattle.carry.specs.Entry.{CarriesOut, carryFault, carryReply}
 
 -- ---- what the cells say
@@ -32,12 +32,12 @@ legal-as-said most n marks cells = (
 -- ---- carry_out
 
 -- a call without faults 1, 8 and 6: a wire count within its limits, and sound marks
-pub carry-called : (n : ℕ) (marks : List ℕ) → (carryFault n marks ≡ 0) ↔ Called n marks
+pub carry-called : (n : ℕ) (marks : List ℕ) → (carryFault n marks ≡ 0) ↔ Marked n marks
 carry-called = call-clear
 
 -- demand 1: nothing that is sound and legal is refused, nothing else is accepted
 pub carry-accepts : (n : ℕ) (marks cells : List ℕ)
-    → (carryReply n marks cells ≡ Done) ↔ (Called n marks × LegalCells maxMembers n marks cells)
+    → (carryReply n marks cells ≡ Done) ↔ (Marked n marks × LegalCells maxMembers n marks cells)
 carry-accepts n marks cells = (
   λ e. let s = refuse-done (carryFault n marks) 0 (cond (isMove maxMembers n marks cells) Done (Refused badMove 0)) e in
       (carry-called n marks .0 (s .0), move-is maxMembers n marks cells (only-true (isMove maxMembers n marks cells) (s .1))),
@@ -47,7 +47,7 @@ carry-accepts n marks cells = (
   where
     only-true : (t : Bool) → cond t Done (Refused badMove 0) ≡ Done → t ≡ true
     only-true true e = refl
-    only-true false e = let z : _≡_ {A = ℕ} 0 1 = cc in absurd (omega arith)
+    only-true false e = absurd (refused-not-done badMove 0 e)
 
 module _ (n : ℕ) (marks cells marks′ : List ℕ) (r : Reply) (promise : CarriesOut n marks cells marks′ r) where
   -- a refusal leaves the marks as they were

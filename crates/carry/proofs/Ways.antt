@@ -4,29 +4,25 @@ use mathlib.Core.List.{List}
 use mathlib.Core.Logic.{_↔_, _≢_, inl, inr}
 use mathlib.Core.Path.{_∙_, _≡_, ap, refl, sym}
 use Prim.Native.Nat.{_<_, _^_, _≤_, ℕ}
-use native.Mathlib.Omega.{arith}
 use lib.ListN.{length}
 use lib.Pow.{pow-mono}
-use Rattle.circuit.proofs.Judging.{lent-well, refused}
-use Rattle.circuit.proofs.TableRule.{call-passes, marks-sound, passes-call}
+use Rattle.circuit.proofs.Judging.{lent-well, refused, refused-not-done}
+use Rattle.circuit.proofs.TableRule.{marks-passes}
 use Rattle.circuit.specs.Faults.{badMove, lentFault, refuse}
 use Rattle.circuit.specs.Limits.{maxMembers, maxWires, parities, tableBytes}
-use Rattle.circuit.specs.Sound.{SoundMarks}
-use Rattle.circuit.specs.TableFaults.{marksFault}
+use Rattle.circuit.specs.TableFaults.{Marked}
 use Rattle.circuit.specs.declared.Reply.{Reply}
 use Rattle.circuit.specs.declared.Reply.the-variants.{Done, Refused}
 use Rattle.gf2.specs.Over.{Below}
 use Rattle.moves.proofs.Deciding.{move-no, move-yes}
 use Rattle.moves.proofs.Laws.{move-keeps-signature, move-leaves-sound, move-shrinks}
-use Rattle.moves.proofs.Wires.{legal-wires}
+use Rattle.moves.proofs.Logs.{cells-checked}
+use Rattle.moves.proofs.Wires.{cells-wires}
 use Rattle.moves.specs.CarryOut.{carryOut}
 use Rattle.moves.specs.Decide.{isMove}
-use Rattle.moves.specs.Log.{LegalCells, MoveForm, setOf, zOf}
-use Rattle.carry.proofs.Conditions.{legal-said, members-below, separates-below}
+use Rattle.moves.specs.Log.{LegalCells, setOf, zOf}
+use Rattle.carry.proofs.Conditions.{members-below, separates-below}
 use Rattle.carry.specs.Entry.{CarriesOut, carryFault, carryReply}
-
-not-done : {P : Type 0} (number place : ℕ) → Refused number place ≡ Done → P
-not-done number place e = let z : _≡_ {A = ℕ} 0 1 = cc in absurd (omega arith)
 
 -- the reply where the checks of the call pass
 judge : ℕ → List ℕ → List ℕ → Reply
@@ -34,18 +30,11 @@ judge n m b = cond (isMove maxMembers n m b) Done (Refused badMove 0)
 
 -- ---- the checks of the call
 
--- a call without faults 1, 8 and 6
-pub record Called (n : ℕ) (marks : List ℕ) : Type 0 where
-  pub some : 1 ≤ n
-  pub few : n ≤ maxWires
-  pub sound : SoundMarks parities n marks
-
-pub call-clear : (n : ℕ) (marks : List ℕ) → (carryFault n marks ≡ 0) ↔ Called n marks
+-- none of 1, 8 and 6: sound marks have the length that 8 asks for
+pub call-clear : (n : ℕ) (marks : List ℕ) → (carryFault n marks ≡ 0) ↔ Marked n marks
 call-clear n marks = (
-  λ e. let a = call-passes n (lentFault (length marks) tableBytes) (marksFault n marks) e in
-      record { some = a .0; few = a .1; sound = marks-sound parities n marks .0 (a .3) },
-  λ c. passes-call n (lentFault (length marks) tableBytes) (marksFault n marks) (c .some) (c .few)
-      (lent-well (length marks) tableBytes (c .sound .long)) (marks-sound parities n marks .1 (c .sound)),
+  λ e. marks-passes n (lentFault (length marks) tableBytes) marks .0 e .0,
+  λ m. marks-passes n (lentFault (length marks) tableBytes) marks .1 (m, lent-well (length marks) tableBytes (m .sound .long)),
 )
 
 pub call-refused : {n f : ℕ} {m b : List ℕ} → f ≡ carryFault n m → f ≢ 0 → CarriesOut n m b m (Refused f 0)
@@ -55,69 +44,59 @@ call-refused {n} {f} {m} {b} e h =
       reply = sym (refused f 0 (judge n m b) h) ∙ ap (λ (x : ℕ). refuse x 0 (judge n m b)) e;
       judged = λ z. absurd (h (e ∙ z));
       marks-left = refl;
-      signature = not-done f 0;
-      sound = not-done f 0;
-      smaller = not-done f 0;
+      signature = λ d. absurd (refused-not-done f 0 d);
+      sound = λ d. absurd (refused-not-done f 0 d);
+      smaller = λ d. absurd (refused-not-done f 0 d);
     }
 
 -- ---- the move
 
-module _ {n : ℕ} {m : List ℕ} (called : Called n m) where
+module _ {n : ℕ} {m : List ℕ} (marked : Marked n m) where
   by-move : (b : List ℕ) → judge n m b ≡ carryReply n m b
   unfolding judge
-  by-move b = ap (λ (x : ℕ). refuse x 0 (judge n m b)) (sym (call-clear n m .1 called))
+  by-move b = ap (λ (x : ℕ). refuse x 0 (judge n m b)) (sym (call-clear n m .1 marked))
 
   -- the code judges on all wires
-  on-all : {b : List ℕ} → LegalCells maxMembers n m b → LegalCells maxMembers maxWires m b
-  on-all g =
-      let same = legal-wires parities n maxWires maxMembers m (called .few) (called .sound) (g .z) (g .Y) in
-      record { z = g .z; Y = g .Y; is = g .is; legal = same .0 (g .legal) }
-
-  on-these : {b : List ℕ} → LegalCells maxMembers maxWires m b → LegalCells maxMembers n m b
-  on-these g =
-      let same = legal-wires parities n maxWires maxMembers m (called .few) (called .sound) (g .z) (g .Y) in
-      record { z = g .z; Y = g .Y; is = g .is; legal = same .1 (g .legal) }
+  on-all : (b : List ℕ) → LegalCells maxMembers n m b ↔ LegalCells maxMembers maxWires m b
+  on-all = cells-wires parities n maxWires maxMembers m (marked .few) (marked .sound)
 
   pub move-refused : {b : List ℕ} → (LegalCells maxMembers maxWires m b → ⊥) → CarriesOut n m b m (Refused badMove 0)
   unfolding judge
   move-refused {b} h =
-      let none : LegalCells maxMembers n m b → ⊥ = λ g. h (on-all g) in
+      let none : LegalCells maxMembers n m b → ⊥ = λ g. h (on-all b .0 g) in
       record {
         reply = ap (λ (x : Bool). cond x Done (Refused badMove 0)) (sym (move-no maxMembers n m b none)) ∙ by-move b;
         judged = λ z. inr (refl, none);
         marks-left = refl;
-        signature = not-done badMove 0;
-        sound = not-done badMove 0;
-        smaller = not-done badMove 0;
+        signature = λ d. absurd (refused-not-done badMove 0 d);
+        sound = λ d. absurd (refused-not-done badMove 0 d);
+        smaller = λ d. absurd (refused-not-done badMove 0 d);
       }
 
   pub move-done : {z : ℕ} {b Y m′ : List ℕ} → LegalCells maxMembers maxWires m b → z ≡ zOf b → Y ≡ setOf b → m′ ≡ carryOut m z Y
       → CarriesOut n m b m′ Done
   unfolding judge
   move-done {z} {b} {Y} {m′} g d e p =
-      let legal = on-these g in
-      let said = legal-said maxMembers n m b legal .1 in
-      let room : 2 ^ n ≤ parities = pow-mono {i = n} {j = maxWires} (called .few) in
+      let legal = on-all b .1 g in
+      let said = cells-checked maxMembers n m b .0 legal .1 in
+      let room : 2 ^ n ≤ parities = pow-mono {i = n} {j = maxWires} (marked .few) in
       let q : m′ ≡ carryOut m (zOf b) (setOf b) = rw (← d, ← e) p in
       record {
         reply = ap (λ (x : Bool). cond x Done (Refused badMove 0)) (sym (move-yes maxMembers n m b legal)) ∙ by-move b;
         judged = λ z. inl (refl, legal);
         marks-left = q;
-        signature = λ _. rw q (move-keeps-signature parities n maxMembers room m (called .sound) (zOf b) (setOf b) said);
-        sound = λ _. rw q (move-leaves-sound parities n maxMembers room m (called .sound) (zOf b) (setOf b) said);
-        smaller = λ _. rw q (move-shrinks parities n maxMembers room m (called .sound) (zOf b) (setOf b) said);
+        signature = λ _. rw q (move-keeps-signature parities n maxMembers room m (marked .sound) (zOf b) (setOf b) said);
+        sound = λ _. rw q (move-leaves-sound parities n maxMembers room m (marked .sound) (zOf b) (setOf b) said);
+        smaller = λ _. rw q (move-shrinks parities n maxMembers room m (marked .sound) (zOf b) (setOf b) said);
       }
 
 -- ---- what carrying it out takes
 
 module _ {m b : List ℕ} (legal : LegalCells maxMembers maxWires m b) where
-  pub move-form : MoveForm maxMembers b
-  move-form = legal-said maxMembers maxWires m b legal .0
-
   -- z and Y, as code takes them from the cells, are parities
   pub may-carry : {z : ℕ} {Y : List ℕ} → length m ≡ tableBytes → z ≡ zOf b → Y ≡ setOf b
       → (length m ≡ tableBytes) × (z < parities) × Below parities Y
   may-carry long d e =
-      let said = legal-said maxMembers maxWires m b legal .1 in
+      let said = cells-checked maxMembers maxWires m b .0 legal .1 in
       let marked = said .marked in
       rw (d, e) (long, separates-below maxWires m (setOf b) long marked (said .separates), members-below maxWires m (setOf b) long marked)

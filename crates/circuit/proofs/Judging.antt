@@ -244,12 +244,12 @@ has-some n f (gate kind a b) h = some-fault n (kindOf kind) a b f h
 
 -- ---- a list
 
-never : (number place : ℕ) → Done ≡ Refused number place → ⊥
-never number place e = let z : _≡_ {A = ℕ} 0 1 = cc in omega arith
+pub refused-not-done : (number place : ℕ) → Refused number place ≡ Done → ⊥
+refused-not-done number place e = let z : _≡_ {A = ℕ} 0 1 = cc in omega arith
 
 pub refuse-done : (f i : ℕ) (rest : Reply) → refuse f i rest ≡ Done → (f ≡ 0) × (rest ≡ Done)
 refuse-done zero i rest e = (refl, e)
-refuse-done (suc f) i rest e = absurd (never (suc f) i (sym e))
+refuse-done (suc f) i rest e = absurd (refused-not-done (suc f) i e)
 
 pub refused : (f i : ℕ) (rest : Reply) → f ≢ 0 → refuse f i rest ≡ Refused f i
 refused zero i rest h = absurd (h refl)
@@ -284,7 +284,7 @@ first-refused n i (g ∷ gs) number (suc k) f =
 pub refused-first : (n i : ℕ) (gs : List Gate) (number place : ℕ) → firstFault n i gs ≡ Refused number place
     → (k : ℕ) × (place ≡ i + k) × FirstFault n gs number k
 unfolding firstFault
-refused-first n i [] number place e = absurd (never number place e)
+refused-first n i [] number place e = absurd (refused-not-done number place (sym e))
 refused-first n i (g ∷ gs) number place e = go (ℕ-discrete (gateFault n g) 0) (λ r. refused-first n (suc i) gs number place r)
   where
     go : Dec (gateFault n g ≡ 0)

@@ -12,9 +12,9 @@ use lib.Seq.{drop-cons}
 use borrow.Author.Tests.{eq-eqb, le-leb, le-ltb, lt-leb, lt-ltb, ne-eqb}
 use Rattle.circuit.proofs.Judging.{or-first, or-pass, or-well, refused, wires-pass, wires-well}
 use Rattle.circuit.specs.Faults.{callReply, orElse, tableRule, wiresFault}
-use Rattle.circuit.specs.Limits.{maxMark, maxWeight, maxWires}
+use Rattle.circuit.specs.Limits.{maxMark, maxWeight, maxWires, parities}
 use Rattle.circuit.specs.Sound.{SoundMarks, SoundWeights, weight}
-use Rattle.circuit.specs.TableFaults.{byteFault, bytesFault, callFault, mostAt, tableFault}
+use Rattle.circuit.specs.TableFaults.{Marked, byteFault, bytesFault, callFault, marksFault, mostAt, tableFault}
 use Rattle.circuit.specs.declared.Reply.the-variants.{Done, Refused}
 
 -- ---- one byte
@@ -177,6 +177,14 @@ call-passes n lent table e =
 
 pub passes-call : (n lent table : ℕ) → 1 ≤ n → n ≤ maxWires → lent ≡ 0 → table ≡ 0 → callFault n lent table ≡ 0
 passes-call n lent table a b e f = or-well (wiresFault n) (orElse lent table) (wires-well n a b) (or-well lent table e f)
+
+-- a call that brings marks has no fault exactly where its wire count and its marks have none, and what it lends has none
+pub marks-passes : (n lent : ℕ) (marks : List ℕ) → (callFault n lent (marksFault n marks) ≡ 0) ↔ (Marked n marks × (lent ≡ 0))
+marks-passes n lent marks = (
+  λ e. let a = call-passes n lent (marksFault n marks) e in
+      (record { some = a .0; few = a .1; sound = marks-sound parities n marks .0 (a .3) }, a .2),
+  λ m. passes-call n lent (marksFault n marks) (m .0 .some) (m .0 .few) (m .1) (marks-sound parities n marks .1 (m .0 .sound)),
+)
 
 -- a call's fault f is the one that the definition g gives: it is refused so, or the call is done
 module _ (f g : ℕ) (e : f ≡ g) where

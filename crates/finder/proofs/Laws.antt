@@ -6,14 +6,13 @@ use Prim.Native.Nat.{_*_, _+_, _/_, _≤_, ℕ}
 use native.Mathlib.Decide.{ℕ-discrete}
 use lib.ListN.{length}
 use Rattle.circuit.proofs.Judging.{lent-pass, lent-well}
-use Rattle.circuit.proofs.TableRule.{call-passes, marks-sound, passes-call}
+use Rattle.circuit.proofs.TableRule.{marks-passes}
 use Rattle.circuit.specs.Faults.{lentFault}
 use Rattle.circuit.specs.Limits.{maxMembers, maxWires, moveCells, parities}
 use Rattle.circuit.specs.OddSet.{members}
 use Rattle.circuit.specs.Sound.{SoundMarks}
-use Rattle.circuit.specs.TableFaults.{marksFault}
 use Rattle.moves.proofs.Laws.{limits-suffice, none-legal-bound}
-use Rattle.moves.specs.Move.{Legal, NoneLegal}
+use Rattle.moves.specs.Move.{Movable, NoneLegal}
 use Rattle.finder.specs.Entry.{Answers, FindMove, findFault, numberOf, placeOf}
 use Rattle.finder.specs.declared.Finding.{Finding}
 use Rattle.finder.specs.declared.Finding.the-variants.{Found, Nothing, Refused}
@@ -28,20 +27,16 @@ pub record Sound (n : ℕ) (marks : List ℕ) (cells : ℕ) : Type 0 where
 -- nothing sound is refused, nothing faulty is accepted
 pub find-accepts : (n : ℕ) (marks : List ℕ) (cells : ℕ) → (findFault n marks cells ≡ 0) ↔ Sound n marks cells
 find-accepts n marks cells = (
-  λ e. let a = call-passes n (lentFault cells moveCells) (marksFault n marks) e in
-      record { some = a .0; few = a .1; long = lent-pass cells moveCells (a .2); marked = marks-sound parities n marks .0 (a .3) },
-  λ s. passes-call n (lentFault cells moveCells) (marksFault n marks) (s .some) (s .few) (lent-well cells moveCells (s .long))
-      (marks-sound parities n marks .1 (s .marked)),
+  λ e. let a = marks-passes n (lentFault cells moveCells) marks .0 e in
+      record { some = a .0 .some; few = a .0 .few; long = lent-pass cells moveCells (a .1); marked = a .0 .sound },
+  λ s. marks-passes n (lentFault cells moveCells) marks .1
+      (record { some = s .some; few = s .few; sound = s .marked }, lent-well cells moveCells (s .long)),
 )
 
--- there is a legal move
-abbrev pub Movable : ℕ → List ℕ → Type 0
-Movable n marks = (z : ℕ) × (Y : List ℕ) × Legal maxMembers n marks z Y
-
 module _ (n : ℕ) (marks cells cells′ : List ℕ) where
-  answer-found : (r : Finding) → Answers n marks cells cells′ r → Movable n marks → r ≡ Found
+  answer-found : (r : Finding) → Answers n marks cells cells′ r → Movable maxMembers n marks → r ≡ Found
   answer-found Found a m = refl
-  answer-found Nothing a m = absurd (a .1 (m .0) (m .1) (m .2))
+  answer-found Nothing a m = absurd (a .1 (m .z) (m .Y) (m .legal))
   answer-found (Refused number place) a m = absurd a
 
   answer-none : (r : Finding) → Answers n marks cells cells′ r → NoneLegal maxMembers n marks → r ≡ Nothing
@@ -81,8 +76,11 @@ module _ (n : ℕ) (marks cells cells′ : List ℕ) where
       answered = h .answers (find-accepts n marks (length cells) .1 sound)
 
       -- a move is found exactly where there is one, and none exactly where there is none
-      pub found-exactly : (r ≡ Found) ↔ Movable n marks
-      found-exactly = (λ e. let a = subst (Answers n marks cells cells′) e answered in (a .z, a .Y, a .legal), answer-found r answered)
+      pub found-exactly : (r ≡ Found) ↔ Movable maxMembers n marks
+      found-exactly = (
+        λ e. let a = subst (Answers n marks cells cells′) e answered in record { z = a .z; Y = a .Y; legal = a .legal },
+        answer-found r answered,
+      )
 
       pub none-exactly : (r ≡ Nothing) ↔ NoneLegal maxMembers n marks
       none-exactly = (λ e. let a = subst (Answers n marks cells cells′) e answered in a .1, answer-none r answered)

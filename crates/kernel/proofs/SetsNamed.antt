@@ -11,7 +11,7 @@ use Rattle.gf2.specs.Sum.{sum}
 use Rattle.moves.proofs.Flips.{flip-bits}
 use Rattle.moves.proofs.Logs.{cells-count, cells-more, cells-none}
 use Rattle.moves.proofs.Sets.{listed-length, listed-off, listed-on, listed-room}
-use Rattle.moves.proofs.Naming.{Room, named-bits, named-few, named-length, named-off, named-on, toggled-few}
+use Rattle.moves.proofs.Naming.{Room, flipped-few, named-bits, named-few, named-length, named-off, named-on}
 use Rattle.moves.specs.CarryOut.{flip}
 use Rattle.moves.specs.Log.{asCells}
 use Rattle.moves.specs.Pair.{named, namedSet}
@@ -51,7 +51,7 @@ small member m a room l =
           omega (
             arith,
             named-few parities member m productBits room,
-            subst (λ (k : ℕ). sum k (λ p. getD (flip w a) p 0) ≤ sum k (λ p. getD w p 0) + 1) long (toggled-few w a (rw long l)),
+            subst (λ (k : ℕ). sum k (λ p. getD (flip w a) p 0) ≤ sum k (λ p. getD w p 0) + 1) long (flipped-few w a (rw long l)),
           );
     }
 

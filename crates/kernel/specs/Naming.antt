@@ -10,7 +10,7 @@ use Rattle.moves.specs.Log.{asCells}
 use Rattle.moves.specs.Pair.{named}
 use Rattle.moves.specs.Sets.{listed}
 
--- the marks of the members of the slots that m names, toggled; each of them has a mark
+-- the marks of the members of the slots that m names, flipped; each of them has a mark
 pub record NamedMarks (m : ℕ) (member set : List ℕ) : Type 0 where
   pub is : set ≡ named parities member m productBits
   pub room : (s : ℕ) → s < productBits → bit m s ≡ 1 → getD member s 0 < parities

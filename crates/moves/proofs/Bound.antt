@@ -23,7 +23,7 @@ use Rattle.moves.proofs.Even.{Even, even-add, even-by, even-scale}
 use Rattle.moves.proofs.Keep.{member-lt}
 use Rattle.moves.proofs.Products.{product-bit, product-lt}
 use Rattle.moves.proofs.Sets.{Rising, ascending, in-occ, listed-le, listed-length, listed-rising, occ, occ-below, rising-weaken}
-use Rattle.moves.specs.Move.{Balanced, Legal, Member, NoneLegal, triple}
+use Rattle.moves.specs.Move.{Balanced, Legal, Member, Movable, NoneLegal, triple}
 use Rattle.moves.specs.Product.{product, tri}
 use Rattle.moves.specs.Sets.{In, listed, only}
 
@@ -134,12 +134,6 @@ chosen-some s (y ∷ ys) ne l =
     go (no h) r = omega (arith, r (omega arith) (half-below (length ys) s l))
 
 -- ---- a legal move where members crowd
-
--- a move that is there
-record Movable (most n : ℕ) (marks : List ℕ) : Type 0 where
-  pub z : ℕ
-  pub Y : List ℕ
-  pub legal : Legal most n marks z Y
 
 take-rising : (lo k : ℕ) (Y : List ℕ) → Rising lo Y → Rising lo (take k Y)
 take-rising lo zero Y r = tt

@@ -9,6 +9,7 @@ use lib.ListN.{drop, getD, length, length-append, length-drop, length-replicate,
 use lib.Seq.{drop-at, ext-getD, getD-append-add, getD-drop, length-take-le, set-append-seam, take-add, take-append-seam, take-at, take-take}
 use borrow.Author.Tests.{le-leb, lt-leb}
 use Rattle.circuit.specs.Lent.{placed}
+use Rattle.circuit.specs.Limits.{moveHead}
 use Rattle.gf2.proofs.Table.{getD-zeros}
 use Rattle.moves.specs.Log.{LegalCells, MoveForm, asCells, logged, moveAt, setOf, zOf}
 use Rattle.moves.specs.Move.{Legal}
@@ -24,19 +25,19 @@ module _ (most z : ℕ) (Y : List ℕ) where
   unfolding asCells
   cells-count = refl
 
-  pub cells-set : take (length Y) (drop 2 (asCells most z Y)) ≡ Y
+  pub cells-set : take (length Y) (drop moveHead (asCells most z Y)) ≡ Y
   unfolding asCells
   cells-set = take-append-seam Y (replicate (most - length Y) 0)
 
-  pub cells-length : length Y ≤ most → length (asCells most z Y) ≡ most + 2
+  pub cells-length : length Y ≤ most → length (asCells most z Y) ≡ most + moveHead
   unfolding asCells
   cells-length h = omega (arith, length-append Y (replicate (most - length Y) 0), length-replicate {A = ℕ} (most - length Y) 0)
 
   -- zeros after Y
-  pub cells-rest : (i : ℕ) → length Y + 2 ≤ i → getD (asCells most z Y) i 0 ≡ 0
+  pub cells-rest : (i : ℕ) → length Y + moveHead ≤ i → getD (asCells most z Y) i 0 ≡ 0
   unfolding asCells
   cells-rest i h =
-      let j : ℕ = i - (length Y + 2) in
+      let j : ℕ = i - (length Y + moveHead) in
       let e : i ≡ suc (suc (length Y + j)) = omega arith in
       rw e (getD-append-add Y (replicate (most - length Y) 0) j 0 ∙ getD-zeros (most - length Y) j)
 
@@ -46,12 +47,12 @@ unfolding asCells
 cells-none most z = let e : most - 0 ≡ most = omega arith in rw e
 
 pub cells-more : (most z : ℕ) (Y : List ℕ) (y : ℕ) → length Y < most
-    → set (set (asCells most z Y) (length Y + 2) y) 1 (length Y + 1) ≡ asCells most z (Y ++ (y ∷ []))
+    → set (set (asCells most z Y) (length Y + moveHead) y) 1 (length Y + 1) ≡ asCells most z (Y ++ (y ∷ []))
 unfolding asCells
 cells-more most z Y y h =
     let d : ℕ = most - suc (length Y) in
     let e : most - length Y ≡ suc d = omega arith in
-    let place : length Y + 2 ≡ suc (suc (length Y)) = omega arith in
+    let place : length Y + moveHead ≡ suc (suc (length Y)) = omega arith in
     let more : length (Y ++ (y ∷ [])) ≡ length Y + 1 = length-append Y (y ∷ []) in
     let left : most - (length Y + 1) ≡ d = omega arith in
     rw (e, place, more, left, set-append-seam Y 0 (replicate d 0) y, append-assoc Y (y ∷ []) (replicate d 0))
@@ -59,9 +60,8 @@ cells-more most z Y y h =
 -- the cells of a move say that move
 pub cells-say : (most z : ℕ) (Y cells : List ℕ) → cells ≡ asCells most z Y → (zOf cells ≡ z) × (setOf cells ≡ Y)
 cells-say most z Y cells e = (
-  ap (λ (f : List ℕ). getD f 0 0) e ∙ cells-z most z Y,
-  ap (λ (f : List ℕ). take (getD f 1 0) (drop 2 f)) e ∙ ap (λ (c : ℕ). take c (drop 2 (asCells most z Y))) (cells-count most z Y)
-      ∙ cells-set most z Y,
+  ap zOf e ∙ cells-z most z Y,
+  ap setOf e ∙ ap (λ (c : ℕ). take c (drop moveHead (asCells most z Y))) (cells-count most z Y) ∙ cells-set most z Y,
 )
 
 -- and no other
@@ -86,25 +86,20 @@ said-cells most (z ∷ c ∷ rest) form =
         (λ i l. getD-drop c rest i 0 ∙ form .zeros (suc (suc (c + i))) (omega arith) (omega (arith, length-drop c rest))
         ∙ sym (getD-zeros (most - c) i))
 
--- what code can look at where cells are to be a legal move: their form, and the move that they say
-pub record Checked (most n : ℕ) (marks cells : List ℕ) : Type 0 where
-  pub form : MoveForm most cells
-  pub legal : Legal most n marks (zOf cells) (setOf cells)
-
-pub cells-checked : (most n : ℕ) (marks cells : List ℕ) → LegalCells most n marks cells ↔ Checked most n marks cells
+-- cells are a legal move exactly if they have the form of one and the move that they say is legal: code can look at these
+pub cells-checked : (most n : ℕ) (marks cells : List ℕ)
+    → LegalCells most n marks cells ↔ (MoveForm most cells × Legal most n marks (zOf cells) (setOf cells))
 cells-checked most n marks cells = (
   λ f. let s = cells-say most (f .z) (f .Y) cells (f .is) in
-      let c : getD cells 1 0 ≡ length (f .Y) = ap (λ (b : List ℕ). getD b 1 0) (f .is) ∙ cells-count most (f .z) (f .Y) in
-      record {
-        form =
-            record {
-              long = ap length (f .is) ∙ cells-length most (f .z) (f .Y) (f .legal .few);
-              few = omega (arith, f .legal .few);
-              zeros = λ i l h. ap (λ (b : List ℕ). getD b i 0) (f .is) ∙ cells-rest most (f .z) (f .Y) i (omega arith);
-            };
-        legal = rw (s .0, s .1) (f .legal);
-      },
-  λ h. record { z = zOf cells; Y = setOf cells; is = said-cells most cells (h .form); legal = h .legal },
+      let c : getD cells 1 0 ≡ length (f .Y) = ap (λ (b : List ℕ). getD b 1 0) (f .is) ∙ cells-count most (f .z) (f .Y) in (
+        record {
+          long = ap length (f .is) ∙ cells-length most (f .z) (f .Y) (f .legal .few);
+          few = omega (arith, f .legal .few);
+          zeros = λ i l h. ap (λ (b : List ℕ). getD b i 0) (f .is) ∙ cells-rest most (f .z) (f .Y) i (omega arith);
+        },
+        rw (s .0, s .1) (f .legal),
+      ),
+  λ h. record { z = zOf cells; Y = setOf cells; is = said-cells most cells (h .0); legal = h .1 },
 )
 
 -- ---- a log

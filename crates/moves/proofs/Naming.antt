@@ -1,5 +1,5 @@
--- From a mask of slots to the set Y: the mark of each named slot's member is toggled, then the marks are listed.
--- Toggling makes it needless that members differ.
+-- From a mask of slots to the set Y: the mark of each named slot's member is flipped, then the marks are listed.
+-- Flipping makes it needless that members differ.
 use mathlib.Core.List.{List, map}
 use mathlib.Core.Logic.{_≢_}
 use mathlib.Core.Path.{_∙_, _≡_, ap, refl, subst, sym}
@@ -34,10 +34,10 @@ marks-sum : (size : ℕ) (w : List ℕ) → length w ≡ size → ((p : ℕ) →
 unfolding weightedSum
 marks-sum size w e two c = listed-sum (λ p. getD w p 0) two size c ∙ ap (λ (k : ℕ). sum k (λ p. getD w p 0 * c p)) (sym e)
 
--- toggling the mark of q xors v q into the xor over the set
-toggled-xor : (size : ℕ) (v : ℕ → ℕ) (w : List ℕ) (q : ℕ) → length w ≡ size → ((p : ℕ) → getD w p 0 < 2) → q < size
+-- flipping the mark of q xors v q into the xor over the set
+flipped-xor : (size : ℕ) (v : ℕ → ℕ) (w : List ℕ) (q : ℕ) → length w ≡ size → ((p : ℕ) → getD w p 0 < 2) → q < size
     → xorAll (map v (listed size (λ p. getD (flip w q) p 0))) ≡ bitXor (v q) (xorAll (map v (listed size (λ p. getD w p 0))))
-toggled-xor size v w q e two l =
+flipped-xor size v w q e two l =
     xorAll-more v q (listed size (λ p. getD (flip w q) p 0)) (listed size (λ p. getD w p 0))
     (λ c. ap (λ (x : ℕ). x % 2) (marks-sum size (flip w q) (length-set w q ((getD w q 0 + 1) % 2) ∙ e) (λ p. flip-bits w q p (two p)) c)
     ∙ weightedSum-addAt 2 w c q 1 (rw e l)
@@ -46,9 +46,9 @@ toggled-xor size v w q e two l =
     turn : (x y : ℕ) → x + 1 * y ≡ y + x
     turn x y = omega arith
 
--- toggling marks one more at most
-pub toggled-few : (w : List ℕ) (q : ℕ) → q < length w → sum (length w) (λ p. getD (flip w q) p 0) ≤ sum (length w) (λ p. getD w p 0) + 1
-toggled-few w q l =
+-- flipping marks one more at most
+pub flipped-few : (w : List ℕ) (q : ℕ) → q < length w → sum (length w) (λ p. getD (flip w q) p 0) ≤ sum (length w) (λ p. getD w p 0) + 1
+flipped-few w q l =
     omega (
       arith,
       sum-update (length w) q (λ p. getD w p 0) (λ p. getD (flip w q) p 0) l
@@ -116,7 +116,7 @@ module _ (size : ℕ) (member : List ℕ) (m : ℕ) where
           ∙ sym (combine-next m k (map v member)
           ∙ rw (e, zero-mul (getD (map v member) k 0)) (xor-zero-r (combine (m % 2 ^ k) (map v member))))
       go (suc zero) e ih =
-          toggled-xor size v (named size member m k) (getD member k 0) (named-length k) (named-bits k) (r k (le-refl _) e)
+          flipped-xor size v (named size member m k) (getD member k 0) (named-length k) (named-bits k) (r k (le-refl _) e)
           ∙ ap (λ (x : ℕ). bitXor (v (getD member k 0)) x) ih ∙ xor-comm (v (getD member k 0)) (combine (m % 2 ^ k) (map v member))
           ∙ sym (combine-next m k (map v member) ∙ rw (e, one-mul (getD (map v member) k 0), getD-map v member k h))
       go (suc (suc x)) e ih = absurd (omega (arith, bit-lt m k))
@@ -134,6 +134,6 @@ module _ (size : ℕ) (member : List ℕ) (m : ℕ) where
           let s : length w ≡ size = named-length k in
           let t : sum size (λ p. getD (flip w (getD member k 0)) p 0) ≤ sum size (λ p. getD w p 0) + 1 =
           subst (λ (x : ℕ). sum x (λ p. getD (flip w (getD member k 0)) p 0) ≤ sum x (λ p. getD w p 0) + 1) s
-          (toggled-few w (getD member k 0) (rw s (r k (le-refl _) e))) in
+          (flipped-few w (getD member k 0) (rw s (r k (le-refl _) e))) in
           omega arith
       go (suc (suc x)) e ih = absurd (omega (arith, bit-lt m k))

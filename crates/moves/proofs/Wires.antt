@@ -13,6 +13,7 @@ use Rattle.gf2.proofs.Over.{sumOver-none}
 use Rattle.gf2.specs.Bit.{bit}
 use Rattle.gf2.specs.Over.{Below, sumOver}
 use Rattle.moves.proofs.Keep.{member-lt, separated-lt}
+use Rattle.moves.specs.Log.{LegalCells}
 use Rattle.moves.specs.Move.{Balanced, Legal, Member, Separates, triple}
 use Rattle.moves.specs.Sets.{In}
 
@@ -61,3 +62,11 @@ legal-wires size n N most marks h sound z Y = (
     both marked s =
         balanced-wires n N z Y h (separated-lt size n marks sound z Y marked s)
         (λ i l. member-lt size n marks sound (getD Y i 0) (marked (getD Y i 0) (i, l, refl)))
+
+-- and cells are a legal move on n wires exactly when they are one on more
+pub cells-wires : (size n N most : ℕ) (marks : List ℕ) → n ≤ N → SoundMarks size n marks → (cells : List ℕ)
+    → LegalCells most n marks cells ↔ LegalCells most N marks cells
+cells-wires size n N most marks h sound cells = (
+  λ g. record { z = g .z; Y = g .Y; is = g .is; legal = legal-wires size n N most marks h sound (g .z) (g .Y) .0 (g .legal) },
+  λ g. record { z = g .z; Y = g .Y; is = g .is; legal = legal-wires size n N most marks h sound (g .z) (g .Y) .1 (g .legal) },
+)

@@ -40,6 +40,12 @@ pub record Legal (most n : ℕ) (marks : List ℕ) (z : ℕ) (Y : List ℕ) : Ty
   pub separates : Separates marks z Y
   pub balanced : Balanced n z Y
 
+-- there is a legal move for these marks
+pub record Movable (most n : ℕ) (marks : List ℕ) : Type 0 where
+  pub z : ℕ
+  pub Y : List ℕ
+  pub legal : Legal most n marks z Y
+
 -- no z and Y make a legal move for these marks
 abbrev pub NoneLegal : ℕ → ℕ → List ℕ → Type 0
 NoneLegal most n marks = (z : ℕ) (Y : List ℕ) → Legal most n marks z Y → ⊥

@@ -34,7 +34,7 @@ pub record Reach (most n t : ℕ) (marks : List ℕ) (a b : ℕ) : Type 0 where
   pub others : (y : ℕ) → In y W → Other (2 ^ n) marks a b y
   pub reaches : xorAll (map (kappa n (bitXor a b) t) W) ≡ kappa n (bitXor a b) t a
 
--- the marks of the members of those slots below k that m names, each toggled, of `size` marks
+-- the marks of the members of those slots below k that m names, each flipped, of `size` marks
 unfoldable pub named : ℕ → List ℕ → ℕ → ℕ → List ℕ
 named size member m zero = replicate size 0
 named size member m (suc k) = flipIf (bit m k) (named size member m k) (getD member k 0)

@@ -1,36 +1,21 @@
--- What the calls for each move ask for and leave: what was searched on all wires holds on n, and the cells found have the form of a move.
+-- What the search for each move leaves: what it says on all wires holds on n, and what the loop's test then tells.
 use mathlib.Core.List.{List}
 use mathlib.Core.Path.{_≡_}
 use Prim.Native.Nat.{ℕ}
-use Rattle.carry.proofs.Conditions.{legal-said}
 use Rattle.circuit.specs.Limits.{maxMembers, maxWires, parities}
-use Rattle.finder.proofs.OnWires.{searched-legal, searched-none}
+use Rattle.circuit.specs.TableFaults.{Marked}
+use Rattle.finder.proofs.OnWires.{searched-none}
 use Rattle.finder.specs.Search.{Searched}
-use Rattle.moves.proofs.Wires.{legal-wires}
-use Rattle.moves.specs.Log.{LegalCells, MoveForm}
+use Rattle.moves.proofs.Wires.{cells-wires}
+use Rattle.moves.specs.Log.{LegalCells}
 use Rattle.moves.specs.Move.{NoneLegal}
 use Rattle.moves.specs.declared.Sought.{Sought}
 use Rattle.moves.specs.declared.Sought.the-variants.{Found, Nothing}
-use Rattle.trimmer.specs.Steps.{Marked, NextMove}
-
--- the cells of a legal move have the form of one
-pub legal-form : {n : ℕ} {marks cells : List ℕ} → LegalCells maxMembers n marks cells → MoveForm maxMembers cells
-legal-form {n} {marks} {cells} f = legal-said maxMembers n marks cells f .0
-
--- and the move is legal on all wires, on which `carry` takes it
-pub legal-everywhere : {n : ℕ} {marks cells : List ℕ} → Marked n marks → LegalCells maxMembers n marks cells
-    → LegalCells maxMembers maxWires marks cells
-legal-everywhere {n} {marks} m f =
-    record {
-      z = f .z;
-      Y = f .Y;
-      is = f .is;
-      legal = legal-wires parities n maxWires maxMembers marks (m .few) (m .sound) (f .z) (f .Y) .0 (f .legal);
-    }
+use Rattle.trimmer.specs.Steps.{NextMove}
 
 pub searched-next : {n : ℕ} {marks : List ℕ} (was cells : List ℕ) → Marked n marks → (found : Sought) → Searched marks was cells found
     → NextMove n marks found cells
-searched-next {n} {marks} was cells m Found s = searched-legal n (m .few) marks (m .sound) cells s
+searched-next {n} {marks} was cells m Found s = cells-wires parities n maxWires maxMembers marks (m .few) (m .sound) cells .1 s
 searched-next {n} {marks} was cells m Nothing s = searched-none n (m .few) marks (m .sound) (s .1)
 
 -- ---- what the loop's test tells

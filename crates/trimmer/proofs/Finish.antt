@@ -11,6 +11,7 @@ use Rattle.circuit.specs.Limits.{gateBytes, maxMembers, maxWires, moveCells, pa
 use Rattle.circuit.specs.OddSet.{members, oddSet}
 use Rattle.circuit.specs.Read.{Reading, read}
 use Rattle.circuit.specs.Sound.{SoundReading, SoundRows, SoundWeights}
+use Rattle.circuit.specs.TableFaults.{Marked}
 use Rattle.moves.proofs.Laws.{limits-suffice}
 use Rattle.moves.specs.Log.{logged}
 use Rattle.moves.specs.Replay.{Replays}
@@ -21,7 +22,7 @@ use Rattle.synth.specs.Faults.{Writable}
 use Rattle.trimmer.proofs.Making.{Turn, still-marked}
 use Rattle.trimmer.proofs.Whole.{whole}
 use Rattle.trimmer.specs.Entry.{Done-with, Trimmable, Writes-read}
-use Rattle.trimmer.specs.Steps.{AllMade, Marked}
+use Rattle.trimmer.specs.Steps.{AllMade}
 use Rattle.trimmer.specs.Trimmed.{Trimmed, oddSetOf, weightsOf}
 use Rattle.trimmer.specs.declared.Counts.{Counts}
 

@@ -10,13 +10,14 @@ use Rattle.circuit.specs.Lent.{placed}
 use Rattle.circuit.specs.Limits.{logCells, maxMembers, maxWires, moveCells, parities}
 use Rattle.circuit.specs.OddSet.{members}
 use Rattle.circuit.specs.Sound.{SoundMarks}
+use Rattle.circuit.specs.TableFaults.{Marked}
 use Rattle.gf2.proofs.Sum.{sum-const, sum-front, sum-le}
 use Rattle.moves.proofs.Laws.{limits-suffice, move-leaves-sound, move-shrinks}
 use Rattle.moves.proofs.Logs.{cells-length, cells-say, logged-length, logged-more}
 use Rattle.moves.proofs.Replaying.{replays-more, replays-none, replays-shrinks, replays-sound}
 use Rattle.moves.specs.CarryOut.{carryOut}
 use Rattle.moves.specs.Log.{LegalCells, logged, setOf, zOf}
-use Rattle.trimmer.specs.Steps.{Made, Marked}
+use Rattle.trimmer.specs.Steps.{Made}
 
 pub made-none : (n : ℕ) (m log : List ℕ) (k : ℕ) → k ≡ 0 → Made n m log k m log
 unfolding logged

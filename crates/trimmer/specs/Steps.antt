@@ -1,10 +1,10 @@
 -- What the steps of the trim give each other.
 use mathlib.Core.List.{List}
 use mathlib.Core.Path.{_≡_}
-use Prim.Native.Nat.{_*_, _+_, _<_, _≤_, ℕ}
+use Prim.Native.Nat.{_*_, _+_, _<_, ℕ}
 use Rattle.circuit.specs.Lent.{KeptFrom}
-use Rattle.circuit.specs.Limits.{maxMembers, maxWires, moveCells, parities}
-use Rattle.circuit.specs.Sound.{SoundMarks}
+use Rattle.circuit.specs.Limits.{maxMembers, moveCells, parities}
+use Rattle.circuit.specs.TableFaults.{Marked}
 use Rattle.moves.specs.CarryOut.{carryOut}
 use Rattle.moves.specs.Log.{LegalCells, logged, setOf, zOf}
 use Rattle.moves.specs.Move.{NoneLegal}
@@ -17,14 +17,8 @@ abbrev pub NextMove : ℕ → List ℕ → Sought → List ℕ → Type 0
 NextMove n marks Found cells = LegalCells maxMembers n marks cells
 NextMove n marks Nothing cells = NoneLegal maxMembers n marks
 
--- a wire count and marks that the steps take
-pub record Marked (n : ℕ) (marks : List ℕ) : Type 0 where
-  pub some : 1 ≤ n
-  pub few : n ≤ maxWires
-  pub sound : SoundMarks parities n marks
-
--- a move was found, and there is another for which the count has room
-pub record Movable (n : ℕ) (marks : List ℕ) (found : Sought) (cells : List ℕ) (count : ℕ) : Type 0 where
+-- a move was found, and the count has room for it
+pub record ToMake (n : ℕ) (marks : List ℕ) (found : Sought) (cells : List ℕ) (count : ℕ) : Type 0 where
   pub marked : Marked n marks
   pub next : NextMove n marks found cells
   pub is-found : found ≡ Found

@@ -3,7 +3,8 @@ ghost use mathlib.Core.Path.{_≡_};
 ghost use Prim.Native.Nat.{_≤_};
 ghost use lib.ListN.{length};
 ghost use Rattle.circuit.specs.Limits.{logCells};
-ghost use Rattle.trimmer.specs.Steps.{AllMade, Marked, Movable, NextMove, Stepped};
+ghost use Rattle.circuit.specs.TableFaults.{Marked};
+ghost use Rattle.trimmer.specs.Steps.{AllMade, NextMove, Stepped, ToMake};
 use crate::steps::moved;
 use crate::steps::next_move;
 use circuit::copying::put_parities;
@@ -57,7 +58,7 @@ fn before_moves(n: usize, first: [Mark; TABLE_BYTES]) -> Moving
 
 // The move that was found, carried out; and what is found then.
 fn make_move(n: usize, s: Moving) -> Moving
-    requires { ⌜ Movable n (s .marks) (s .found) (s .cells) (s .count) ⌝ }
+    requires { ⌜ ToMake n (s .marks) (s .found) (s .cells) (s .count) ⌝ }
     ensures { λ r. ⌜ Stepped n (s .marks) (s .cells) (s .count) (r .marks) (r .count) (r .found) (r .cells) ⌝ }
 {
     let marks = s.marks;

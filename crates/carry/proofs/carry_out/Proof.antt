@@ -4,9 +4,10 @@ use Prim.Native.Nat.{ℕ}
 use native.Mathlib.Omega.{arith}
 use borrow.Author.Needs.{needs}
 use denote.Ref.{now}
-use Rattle.circuit.specs.TableFaults.{callFault, marksFault}
+use Rattle.circuit.specs.TableFaults.{Marked, callFault, marksFault}
+use Rattle.moves.proofs.Logs.{cells-checked}
 use Rattle.carry.proofs.Deciding.{denied, granted}
-use Rattle.carry.proofs.Ways.{Called, call-clear, call-refused, may-carry, move-done, move-form, move-refused}
+use Rattle.carry.proofs.Ways.{call-clear, call-refused, may-carry, move-done, move-refused}
 use Rattle.carry.specs.Entry.{carryFault}
 use Rattle.carry.proofs.carry_out.Statement.{statement}
 use Rattle.carry.proofs.carry_out.Tie as tie
@@ -24,33 +25,33 @@ fault-is f =
 returns : tie.Need-returns
 returns c = call-refused (fault-is (search)) (search)
 
-called : (f : tie.After-marks-call-fault) → f .marks-call-fault .result ≡ 0 → Called (entry f .args .n) (now (entry f .args .marks))
-called f clear = call-clear _ _ .0 (sym (fault-is f) ∙ clear)
+marked : (f : tie.After-marks-call-fault) → f .marks-call-fault .result ≡ 0 → Marked (entry f .args .n) (now (entry f .args .marks))
+marked f clear = call-clear _ _ .0 (sym (fault-is f) ∙ clear)
 
 is-move-requires : tie.Need-is-move-requires
-is-move-requires c κs = called (search) (search) .sound .long
+is-move-requires c κs = marked (search) (search) .sound .long
 
 returns-2 : tie.Need-returns-2
 returns-2 c =
     let m : tie.After-is-move = search in
-    move-refused (called (search) (search)) (denied (m .is-move .ensures) (search))
+    move-refused (marked (search) (search)) (denied (m .is-move .ensures) (search))
 
 cell-at-requires : tie.Need-cell-at-requires
 cell-at-requires c κs =
     let m : tie.After-is-move = search in
-    omega (arith, move-form (granted (m .is-move .ensures) (search)) .long)
+    omega (arith, cells-checked _ _ _ _ .0 (granted (m .is-move .ensures) (search)) .0 .long)
 
 set-of-requires : tie.Need-set-of-requires
 set-of-requires c κs =
     let m : tie.After-is-move = search in
-    move-form (granted (m .is-move .ensures) (search))
+    cells-checked _ _ _ _ .0 (granted (m .is-move .ensures) (search)) .0
 
 carry-requires : tie.Need-carry-requires
 carry-requires c κs =
     let y : tie.After-set-of = search in
     let z : tie.After-cell-at = search in
     let m : tie.After-is-move = search in
-    may-carry (granted (m .is-move .ensures) (search)) (called (search) (search) .sound .long) (z .cell-at .ensures) (y .set-of .ensures)
+    may-carry (granted (m .is-move .ensures) (search)) (marked (search) (search) .sound .long) (z .cell-at .ensures) (y .set-of .ensures)
 
 same-length-3 : tie.Need-same-length-3
 same-length-3 c = let d : tie.After-carry = search in d .carry .kept .0
@@ -62,7 +63,7 @@ returns-3 c =
     let z : tie.After-cell-at = search in
     let m : tie.After-is-move = search in
     let legal = granted (m .is-move .ensures) (search) in
-    move-done (called (search) (search)) legal (z .cell-at .ensures) (y .set-of .ensures) (d .carry .ensures)
+    move-done (marked (search) (search)) legal (z .cell-at .ensures) (y .set-of .ensures) (d .carry .ensures)
 
 pub carry-out-spec : {M : Type 1} → statement M
 carry-out-spec =

@@ -3,7 +3,8 @@ use native.Mathlib.Omega.{arith}
 use borrow.Author.Needs.{needs}
 use denote.Ref.{now}
 use Rattle.circuit.specs.Limits.{maxMembers, maxWires}
-use Rattle.carry.proofs.Conditions.{legal-said, move-if-legal, set-few}
+use Rattle.moves.proofs.Logs.{cells-checked}
+use Rattle.carry.proofs.Conditions.{move-if-legal, set-few}
 use Rattle.carry.proofs.Deciding.{answer-no, denied, granted}
 use Rattle.carry.proofs.legality.is_move.Statement.{statement}
 use Rattle.carry.proofs.legality.is_move.Tie as tie
@@ -12,8 +13,8 @@ returns : tie.Need-returns
 returns c =
     let f : tie.After-has-form = search in
     let s : tie.Start = search in
-    let said = legal-said maxMembers maxWires (now (s .args .marks)) (now (s .args .cells)) in
-    answer-no (λ g. denied (f .has-form .ensures) (search) (said g .0))
+    let said = cells-checked maxMembers maxWires (now (s .args .marks)) (now (s .args .cells)) in
+    answer-no (λ g. denied (f .has-form .ensures) (search) (said .0 g .0))
 
 cell-at-requires : tie.Need-cell-at-requires
 cell-at-requires c κs =

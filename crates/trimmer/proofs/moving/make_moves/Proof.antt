@@ -6,9 +6,10 @@ use native.Mathlib.Omega.{arith}
 use borrow.Author.Needs.{needs}
 use denote.Ref.{now}
 use Rattle.circuit.specs.OddSet.{members}
+use Rattle.circuit.specs.TableFaults.{Marked}
 use Rattle.trimmer.proofs.Calls.{next-legal, next-none}
 use Rattle.trimmer.proofs.Making.{Turn, cells-long, few-moves, made-more, made-none, move-room, move-smaller, still-marked}
-use Rattle.trimmer.specs.Steps.{Made, Marked, NextMove}
+use Rattle.trimmer.specs.Steps.{Made, NextMove}
 use Rattle.trimmer.proofs.moving.make_moves.Statement.{statement}
 use Rattle.trimmer.proofs.moving.make_moves.Tie as tie
 
