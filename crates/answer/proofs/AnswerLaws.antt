@@ -7,7 +7,7 @@ use native.Mathlib.Decide.{decLt}
 use native.Mathlib.Omega.{arith}
 use lib.ListN.{drop, length, take}
 use lib.Seq.{take-append-seam}
-use Rattle.circuit.proofs.Bytes.{gates-in}
+use Rattle.circuit.proofs.Bytes.{gates-in, gates-of-bytes, length-bytes}
 use Rattle.circuit.proofs.GateKinds.{kind-above, t-is-odd}
 use Rattle.circuit.proofs.Judging.{short-pass}
 use Rattle.circuit.proofs.Laws.{fault-is-first, odd-set-no-larger}
@@ -20,7 +20,6 @@ use Rattle.circuit.specs.declared.Reply.{Reply}
 use Rattle.circuit.specs.declared.Reply.the-variants as reply
 use Rattle.circuit.specs.declared.gates.Kind.{Kind}
 use Rattle.circuit.specs.declared.gates.Kind.the-variants.{Cnot, Phase, Unknown}
-use Rattle.synth.proofs.GateBytes.{gates-of-bytes, length-bytes}
 use Rattle.synth.proofs.WriteWays.{longest}
 use Rattle.text.proofs.ReadsWritten.{bytes-more, reads-written}
 use Rattle.text.proofs.TextLaws.{circuit-reads-back, first-bytes-decide, refused-line-long, reply-fits}

@@ -1,6 +1,5 @@
 -- The kind of a gate, by its byte: what the code's match tells, and that T and T dagger are the gates that add an odd phase. What holds of
 -- every kind is one test, computed at each up to the last.
-use mathlib.Core.Bool.{Bool}
 use mathlib.Core.Path.{_≡_}
 use Prim.Native.Nat.{_%_, _<_, suc, ℕ}
 use native.Mathlib.Decide.{decLt}

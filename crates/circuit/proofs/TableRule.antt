@@ -7,7 +7,7 @@ use native.Mathlib.Decide.{decLe, decLt, ℕ-discrete}
 use native.Mathlib.Nat.{add-zero}
 use native.Mathlib.Numerals.{add-one}
 use native.Mathlib.Omega.{arith}
-use lib.ListN.{List·getD-eq-default, drop, getD, length}
+use lib.ListN.{List·getD-eq-default, drop, drop-of-length-le, getD, length}
 use lib.Seq.{drop-cons}
 use borrow.Author.Tests.{eq-eqb, le-leb, le-ltb, lt-leb, lt-ltb, ne-eqb}
 use Rattle.circuit.proofs.Judging.{or-first, or-pass, or-well, refused, wires-pass, wires-well}
@@ -56,15 +56,9 @@ module _ (n most : ℕ) (table : List ℕ) (p : ℕ) (inside : p < length table)
   pub fault-after : f ≡ 0 → bytesFault n most (p + 1) (drop (p + 1) table) ≡ bytesFault n most p (drop p table)
   fault-after z = sym (step ∙ rw z)
 
-past : (table : List ℕ) (p : ℕ) → length table ≤ p → drop p table ≡ []
-past [] zero h = refl
-past [] (suc p) h = refl
-past (x ∷ xs) zero h = absurd (omega arith)
-past (x ∷ xs) (suc p) h = past xs p (omega arith)
-
 pub none-left : (n most : ℕ) (table : List ℕ) (p : ℕ) → length table ≤ p → 0 ≡ bytesFault n most p (drop p table)
 unfolding bytesFault
-none-left n most table p h = rw (past table p h)
+none-left n most table p h = rw (drop-of-length-le table {i = p} h)
 
 pub long-table : (size n most : ℕ) (table : List ℕ) → length table ≡ size → bytesFault n most 0 table ≡ tableFault size n most table
 unfolding tableFault

@@ -1,11 +1,9 @@
 -- The tests decide: they hold exactly where the definitions do.
 use mathlib.Core.Bool.{Bool, _&&_, false, not, true}
 use mathlib.Core.List.{List, [], _∷_}
-use mathlib.Core.Logic.{_↔_, _⊎_, inl, inr}
+use mathlib.Core.Logic.{_↔_}
 use mathlib.Core.Path.{_∙_, _≡_, ap, ap₂, refl, sym}
-use Prim.Native.Nat.{_%_, _-_, _<_, suc, zero, ℕ}
-use native.Mathlib.Decide.{ℕ-discrete}
-use native.Mathlib.Nat.{le-refl}
+use Prim.Native.Nat.{_%_, _-_, _<_, suc, ℕ}
 use native.Mathlib.Omega.{arith}
 use lib.Bits.{bitXor, xor-comm}
 use lib.Dec.{T, T-not, eqb, eqb-refl, eqb→eq, leb, leb→le, le→leb, ltb, ltb→lt, lt→ltb, not-T}
@@ -14,7 +12,7 @@ use Rattle.circuit.specs.Sound.{weight}
 use Rattle.gf2.proofs.Brute.{T-both}
 use Rattle.gf2.proofs.Every.{any-at, at-any, at-every, every-at}
 use Rattle.gf2.proofs.Xor.{xor-cancel}
-use Rattle.gf2.specs.Every.{any, every}
+use Rattle.gf2.specs.Every.{every}
 use Rattle.gf2.specs.Over.{sumOver, xorAll}
 use Rattle.moves.proofs.Logs.{cells-say}
 use Rattle.moves.specs.Decide.{areMembers, isAscending, isBalanced, isIn, isLegal, isMember, isMove, isSeparating, sameCells}

@@ -9,6 +9,7 @@ use native.Mathlib.Omega.{arith}
 use lib.ListN.{drop, length, length-append, take}
 use lib.Seq.{take-append-seam}
 use borrow.Author.Tests.{eq-eqb, le-leb, lt-leb, ne-eqb}
+use Rattle.circuit.proofs.Bytes.{length-gates}
 use Rattle.circuit.proofs.Placing.{placed-kept}
 use Rattle.circuit.specs.Faults.{callReply, lentOutput, listLength, malformed, shortFault, wireCount, wiresFault}
 use Rattle.circuit.specs.Gate.{Gate, gate, gatesOf}
@@ -21,7 +22,7 @@ use Rattle.text.proofs.LineForms.{first-formed}
 use Rattle.text.proofs.ReadsWritten.{never, reads-written}
 use Rattle.text.proofs.TextFaults.{Small, count-refused, faults-small, gate-wrong, one-too-many, one-wrong, read-circuit}
 use Rattle.text.proofs.TextFaults.{read-faulty}
-use Rattle.text.proofs.WrittenReads.{circuit-pass, length-gates, pair-hex, pair-low, wires-starts, written-reads}
+use Rattle.text.proofs.WrittenReads.{circuit-pass, pair-hex, pair-low, wires-starts, written-reads}
 use Rattle.text.specs.Entry.{ReadText, gatesAfter, readInto, replyOf}
 use Rattle.text.specs.Hex.{hex2, hex4}
 use Rattle.text.specs.Limits.{countsLineBytes, gateDigits, gateLineBytes, refusedLineBytes, replyBytes, textBytes}

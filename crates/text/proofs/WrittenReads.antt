@@ -6,6 +6,7 @@ use Prim.Native.Nat.{_%_, _*_, _+_, _/_, _<_, _≤_, suc, ℕ}
 use native.Mathlib.Nat.{add-zero, zero-add}
 use native.Mathlib.Omega.{arith}
 use lib.ListN.{getD, length}
+use Rattle.circuit.proofs.Bytes.{length-gates}
 use Rattle.circuit.proofs.Judging.{wires-well}
 use Rattle.circuit.specs.Faults.{refuse, wiresFault}
 use Rattle.circuit.specs.Gate.{Gate, gate, gatesOf}
@@ -110,13 +111,6 @@ gates-decoded (kind ∷ a ∷ []) w f = absurd (omega arith)
 gates-decoded (kind ∷ a ∷ b ∷ bytes) w f =
     line-decoded kind a b (gateLines (gatesOf bytes)) (f 0) (f 1) (f 2)
     ∙ ap (λ (x : List ℕ). kind ∷ a ∷ b ∷ x) (gates-decoded bytes (omega arith) (λ i. f (suc (suc (suc i)))))
-
-pub length-gates : (bytes : List ℕ) → length bytes % gateBytes ≡ 0 → gateBytes * length (gatesOf bytes) ≡ length bytes
-unfolding gatesOf
-length-gates [] w = refl
-length-gates (kind ∷ []) w = absurd (omega arith)
-length-gates (kind ∷ a ∷ []) w = absurd (omega arith)
-length-gates (kind ∷ a ∷ b ∷ bytes) w = omega (arith, length-gates bytes (omega arith))
 
 module _ (n : ℕ) (bytes : List ℕ) (is : Sayable n bytes) where
   few-gates : length (gatesOf bytes) ≤ maxGates

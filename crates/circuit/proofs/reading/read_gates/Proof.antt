@@ -1,6 +1,6 @@
 -- Reading the gates from gate g on, from the reading so far, gives the reading of the list.
 use mathlib.Core.Path.{ap, subst, sym, _∙_, _≡_}
-use Prim.Native.Nat.{_-_, _/_, _<_, _≤_}
+use Prim.Native.Nat.{_-_, _/_, _≤_}
 use native.Mathlib.Omega.{arith}
 use lib.ListN.{length}
 use borrow.Author.Needs.{needs}
