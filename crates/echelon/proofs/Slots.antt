@@ -1,4 +1,4 @@
--- The steps of the code on the tables of slots, over plain numbers and lists.
+-- The steps of the code on the slots, over plain numbers and lists.
 use mathlib.Core.List.{List}
 use mathlib.Core.Logic.{_≢_}
 use mathlib.Core.Path.{_∙_, _≡_, ap, subst, sym}

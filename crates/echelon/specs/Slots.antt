@@ -1,4 +1,4 @@
--- What the functions of this crate promise of the tables of slots.
+-- What the functions of this crate promise of the slots.
 use mathlib.Core.List.{List, map}
 use mathlib.Core.Path.{_≡_}
 use Prim.Native.Nat.{_<_, _^_, _≤_, suc, ℕ}
@@ -26,7 +26,7 @@ pub record SlotMembers (member : List ℕ) : Type 0 where
   pub long : length member ≡ productBits
   pub below : Below parities member
 
--- tables of productBits slots
+-- productBits slots
 pub record Slots (vec mask member : List ℕ) : Type 0 where
   pub shape : Shape productBits vec
   pub masks-long : length mask ≡ productBits

@@ -1,4 +1,4 @@
-// An xor basis ("echelon") in tables of PRODUCT_BITS slots, in which the finder eliminates columns. Slot s holds 0, or a number whose
+// An xor basis ("echelon") of PRODUCT_BITS slots, in which the finder eliminates columns. Slot s holds 0, or a number whose
 // leading bit is s; beside it stand a mask of slots and the parity whose column opened it. Internal: no entry for users.
 ghost use mathlib.Core.Logic.{_≢_};
 ghost use Prim.Native.Nat.{_<_, _^_};

@@ -1,4 +1,4 @@
--- An xor basis ("echelon") in tables of N slots: slot s holds 0, or a number whose leading bit is s.
+-- An xor basis ("echelon") of N slots: slot s holds 0, or a number whose leading bit is s.
 -- Beside it stand a mask of slots and the column that opened it.
 use mathlib.Core.List.{List, map}
 use mathlib.Core.Logic.{_≢_, _⊎_}

@@ -38,7 +38,7 @@ module _ {ys : List ℕ} {a b z t : ℕ} {vec mask member : List ℕ} where
       long : length (replicate {A = ℕ} productBits 0) ≡ productBits
       long = length-replicate {A = ℕ} productBits 0
 
-  -- the tables of a basis have the form that code asks of them
+  -- the slots of a basis have the form that code asks of them
   pub built-slots : {k : ℕ} → Built k ys a b z t vec mask member → Slots vec mask member
   built-slots h = record { shape = h .basis .echelon .shape; masks-long = h .basis .echelon .masks-long; members = h .members }
 

@@ -14,7 +14,7 @@ use Rattle.moves.specs.declared.Sought.{Sought}
 use Rattle.moves.specs.declared.Sought.the-variants.{Found, Nothing}
 use Rattle.kernel.specs.Members.{Others, marksOf}
 
--- tables of empty slots
+-- empty slots
 pub record Empty (vec mask member : List ℕ) : Type 0 where
   pub vecs : vec ≡ replicate productBits 0
   pub masks : mask ≡ replicate productBits 0

@@ -48,7 +48,7 @@ pub fn members_of(marks: &[Mark; TABLE_BYTES]) -> usize
     count
 }
 
-fn wide(x: u8) -> usize
+fn wide(x: Mark) -> usize
     ensures { λ r. ⌜ (r ≡ x) × (x < 256) ⌝ }
 {
     x as usize
