@@ -27,7 +27,7 @@ pub struct GateBytes {
     pub b: u8,
 }
 
-// Gate i of a list. Internal: the list has one.
+// Gate i of a list. Internal: the list has so many.
 pub fn gate_at(gates: &[u8], i: usize) -> GateBytes
     requires { ⌜ gateBytes * i + 2 < length (now gates) ⌝ }
     ensures { λ r. ⌜ gateOf r ≡ byteGate (now (gates .entry)) i ⌝ }
