@@ -14,7 +14,7 @@ use Rattle.circuit.proofs.Judging.{or-first, or-pass, or-well, refused,
 use Rattle.circuit.specs.Faults.{callReply, orElse, tableRule, wiresFault}
 use Rattle.circuit.specs.Limits.{maxMark, maxWeight, maxWires, parities}
 use Rattle.circuit.specs.Sound.{SoundMarks, SoundWeights, weight}
-use Rattle.circuit.specs.TableFaults.{Marked, byteFault, bytesFault, callFault, marksFault, mostAt, tableFault}
+use Rattle.circuit.specs.TableFaults.{Marked, byteFault, bytesFault, callFault, marksFault, mostAt, tableFault, weightsFault}
 use Rattle.circuit.specs.declared.Reply.the-variants.{Done, Refused}
 
 -- ---- one byte
@@ -171,6 +171,14 @@ call-passes n lent table e =
 
 pub passes-call : (n lent table : ℕ) → 1 ≤ n → n ≤ maxWires → lent ≡ 0 → table ≡ 0 → callFault n lent table ≡ 0
 passes-call n lent table a b e f = or-well (wiresFault n) (orElse lent table) (wires-well n a b) (or-well lent table e f)
+
+-- a call that brings weights has no fault exactly where its wire count and its weights have none, and what it lends has none
+pub weights-passes : (n lent : ℕ) (w : List ℕ)
+    → (callFault n lent (weightsFault n w) ≡ 0) ↔ (((1 ≤ n) × (n ≤ maxWires)) × (lent ≡ 0) × SoundWeights parities n w)
+weights-passes n lent w = (
+  λ e. let a = call-passes n lent (weightsFault n w) e in ((a .0, a .1), a .2, weights-sound parities n w .0 (a .3)),
+  λ s. passes-call n lent (weightsFault n w) (s .0 .0) (s .0 .1) (s .1) (weights-sound parities n w .1 (s .2)),
+)
 
 -- a call that brings marks has no fault exactly where its wire count and its marks have none, and what it lends has none
 pub marks-passes : (n lent : ℕ) (marks : List ℕ) → (callFault n lent (marksFault n marks) ≡ 0) ↔ (Marked n marks × (lent ≡ 0))

@@ -3,10 +3,10 @@ use mathlib.Core.List.{List, [], _∷_}
 use mathlib.Core.Path.{ap, refl, sym, _∙_, _≡_}
 use Prim.Native.Nat.{_%_, _*_, _+_, _/_, _<_, suc, zero, ℕ, _≤_}
 use native.Mathlib.Decide.{ℕ-discrete}
-use native.Mathlib.Nat.{div-add-mod', mod-add-mod}
+use native.Mathlib.Nat.{div-add-mod', mod-add-mod, suc-add, zero-add}
 use native.Mathlib.Omega.{arith}
-use lib.ListN.{getD, length, length-set, replicate, set}
-use lib.Seq.{ext-getD, getD-set-other, getD-set-same}
+use lib.ListN.{drop, getD, length, length-set, replicate, set, take}
+use lib.Seq.{ext-getD, getD-set-other, getD-set-same, take-nil}
 use Rattle.gf2.proofs.Modular.{mod-by}
 use Rattle.gf2.proofs.Sum.{sum-ext, sum-update}
 use Rattle.gf2.specs.Sum.{sum}
@@ -45,6 +45,12 @@ pub getD-zeros : (k i : ℕ) → _≡_ {A = ℕ} (getD (replicate k 0) i 0) 0
 getD-zeros zero i = refl
 getD-zeros (suc k) zero = refl
 getD-zeros (suc k) (suc i) = getD-zeros k i
+
+-- a part of a list is the end of a front of it
+pub drop-take : (m n : ℕ) (t : List ℕ) → drop m (take (m + n) t) ≡ take n (drop m t)
+drop-take zero n t = rw (zero-add n)
+drop-take (suc m) n [] = rw (suc-add m n) (sym (take-nil n))
+drop-take (suc m) n (b ∷ t) = rw (suc-add m n) (drop-take m n t)
 
 -- ---- a table that a loop fills from the front
 

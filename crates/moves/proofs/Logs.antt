@@ -6,11 +6,11 @@ use Prim.Native.Nat.{_*_, _+_, _-_, _<_, _≤_, suc, zero, ℕ}
 use native.Mathlib.Decide.{decLt}
 use native.Mathlib.Omega.{arith}
 use lib.ListN.{drop, getD, length, length-append, length-drop, length-replicate, replicate, set, take, take-append-drop}
-use lib.Seq.{drop-at, ext-getD, getD-append-add, getD-drop, length-take-le, set-append-seam, take-add, take-append-seam, take-at, take-take}
+use lib.Seq.{drop-at, ext-getD, getD-append-add, getD-drop, length-take-le, set-append-seam, take-append-seam, take-at, take-take}
 use borrow.Author.Tests.{le-leb, lt-leb}
 use Rattle.circuit.specs.Lent.{placed}
 use Rattle.circuit.specs.Limits.{moveHead}
-use Rattle.gf2.proofs.Table.{getD-zeros}
+use Rattle.gf2.proofs.Table.{drop-take, getD-zeros}
 use Rattle.moves.specs.Log.{LegalCells, MoveForm, asCells, logged, moveAt, setOf, zOf}
 use Rattle.moves.specs.Move.{Legal}
 
@@ -114,10 +114,6 @@ module _ (size : ℕ) (log : List ℕ) (k : ℕ) where
   unfolding moveAt
   move-whole h = simp (le-leb (size * k + size) (length log) h)
 
--- a part of a list is the end of a front of it
-part : (j size : ℕ) (log : List ℕ) → j ≤ length log → take size (drop j log) ≡ drop j (take (j + size) log)
-part j size log h = sym (ap (drop j) (take-add j size log) ∙ drop-at (take j log) (take size (drop j log)) j (length-take-le j log h))
-
 -- logs that agree up to move k have the same move k
 pub move-same : (size k : ℕ) (log log′ : List ℕ) → length log ≡ length log′ → take (size * k + size) log ≡ take (size * k + size) log′
     → moveAt size log k ≡ moveAt size log′ k
@@ -126,8 +122,8 @@ move-same size k log log′ e same = go (decLt (length log) (size * k + size))
     go : Dec (length log < size * k + size) → moveAt size log k ≡ moveAt size log′ k
     go (yes l) = move-short size log k l ∙ sym (move-short size log′ k (rw (← e) l))
     go (no g) =
-        move-whole size log k (omega arith) ∙ part (size * k) size log (omega arith) ∙ ap (drop (size * k)) same
-        ∙ sym (move-whole size log′ k (omega arith) ∙ part (size * k) size log′ (omega arith))
+        move-whole size log k (omega arith) ∙ sym (drop-take (size * k) size log) ∙ ap (drop (size * k)) same
+        ∙ sym (move-whole size log′ k (omega arith) ∙ sym (drop-take (size * k) size log′))
 
 pub logged-same : (size m : ℕ) (log log′ : List ℕ) → length log ≡ length log′ → take (size * m) log ≡ take (size * m) log′
     → logged size log m ≡ logged size log′ m

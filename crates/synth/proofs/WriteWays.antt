@@ -8,11 +8,11 @@ use native.Mathlib.Omega.{arith}
 use lib.ListN.{length, take}
 use lib.Pow.{pow-mono}
 use Rattle.circuit.proofs.Judging.{or-first, or-pass, or-second, or-well, short-pass, short-well}
-use Rattle.circuit.proofs.TableRule.{call-passes, passes-call, weights-sound}
+use Rattle.circuit.proofs.TableRule.{call-passes, weights-passes}
 use Rattle.circuit.specs.Faults.{Accepted, orElse, shortFault}
 use Rattle.circuit.specs.Gate.{Gate, bytesOf, gatesOf}
 use Rattle.circuit.specs.Lent.{frontGates, readingLent}
-use Rattle.circuit.specs.Limits.{gateBytes, maxWires, maxWrittenGates, parities, rowCells, writeBytes, writtenGates}
+use Rattle.circuit.specs.Limits.{gateBytes, maxWires, maxWrittenGates, rowCells, writeBytes, writtenGates}
 use Rattle.circuit.specs.TableFaults.{callFault, weightsFault}
 use Rattle.circuit.proofs.Bytes.{gates-of-bytes, length-bytes}
 use Rattle.synth.proofs.RowRule.{rows-sound}
@@ -59,12 +59,12 @@ module _ (n : ℕ) (w rows : List ℕ) (gates : ℕ) where
   unfolding writeFault
   fault-ready e =
       let a = or-pass (callPart n w gates) (rowsFault rowCells n rows) e in
-      let b = call-passes n (shortFault gates writeBytes) (weightsFault n w) (a .0) in
+      let b = weights-passes n (shortFault gates writeBytes) w .0 (a .0) in
       record {
-        some = b .0;
-        few = b .1;
-        room = short-pass gates writeBytes (b .2);
-        weights-sound = weights-sound parities n w .0 (b .3);
+        some = b .0 .0;
+        few = b .0 .1;
+        room = short-pass gates writeBytes (b .1);
+        weights-sound = b .2;
         rows-sound = rows-sound rowCells n rows .0 (a .1);
       }
 
@@ -72,8 +72,7 @@ module _ (n : ℕ) (w rows : List ℕ) (gates : ℕ) where
   unfolding writeFault
   ready-faultless r =
       or-well (callPart n w gates) (rowsFault rowCells n rows)
-      (passes-call n (shortFault gates writeBytes) (weightsFault n w) (r .some) (r .few) (short-well gates writeBytes (r .room))
-      (weights-sound parities n w .1 (r .weights-sound)))
+      (weights-passes n (shortFault gates writeBytes) w .1 ((r .some, r .few), short-well gates writeBytes (r .room), r .weights-sound))
       (rows-sound rowCells n rows .1 (r .rows-sound))
 
 -- ---- the ways out

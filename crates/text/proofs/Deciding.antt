@@ -5,10 +5,10 @@ use mathlib.Core.List.{List, [], _∷_}
 use mathlib.Core.Path.{_∙_, _≡_, ap, ap₂, refl, sym}
 use Prim.Native.Nat.{_*_, _+_, _<_, _≤_, suc, zero, ℕ}
 use native.Mathlib.Decide.{decLt}
-use native.Mathlib.Nat.{suc-add, zero-add}
 use native.Mathlib.Omega.{arith}
 use lib.ListN.{drop, length, length-take, take}
-use lib.Seq.{getD-take, take-all, take-nil}
+use lib.Seq.{getD-take, take-all}
+use Rattle.gf2.proofs.Table.{drop-take}
 use Rattle.circuit.specs.Faults.{refuse, wiresFault}
 use Rattle.circuit.specs.Limits.{maxGates}
 use Rattle.circuit.specs.declared.Reply.{Reply}
@@ -31,11 +31,6 @@ starts-take (suc k) (suc m) (b ∷ t) h = rw (starts-take k m t (omega arith))
 
 formed-take : (k m : ℕ) (t : List ℕ) → k < m → firstFormed k (linesOf (take m t)) ≡ firstFormed k (linesOf t)
 formed-take k m t h = sym (first-formed k (take m t)) ∙ starts-take k m t h ∙ first-formed k t
-
-drop-take : (m n : ℕ) (t : List ℕ) → drop m (take (m + n) t) ≡ take n (drop m t)
-drop-take zero n t = rw (zero-add n)
-drop-take (suc m) n [] = rw (suc-add m n) (sym (take-nil n))
-drop-take (suc m) n (b ∷ t) = rw (suc-add m n) (drop-take m n t)
 
 -- ---- r gate lines may come yet: their bytes and one more decide
 

@@ -7,25 +7,17 @@ use Prim.Native.Nat.{ℕ, _≤_}
 use native.Mathlib.Omega.{arith}
 use lib.ListN.{length}
 use Rattle.circuit.proofs.Judging.{lent-pass, lent-well, or-pass, or-well}
-use Rattle.circuit.proofs.TableRule.{call-passes, marks-sound, passes-call, weights-sound}
+use Rattle.circuit.proofs.TableRule.{marks-sound, weights-passes}
 use Rattle.circuit.specs.Faults.{lentFault, orElse}
 use Rattle.circuit.specs.Limits.{maxWires, pairBytes, parities, tableBytes, tripleBytes}
 use Rattle.circuit.specs.Sound.{SoundMarks, SoundWeights}
-use Rattle.circuit.specs.TableFaults.{callFault, marksFault, weightsFault}
+use Rattle.circuit.specs.TableFaults.{marksFault}
 use Rattle.weights.specs.Entry.{coefficientsFault, listsFault, newWeightsFault, oddSetFault}
 use Rattle.weights.specs.Lists.{ListsFit}
 
 -- a wire count that is no fault
 abbrev pub Wires : ℕ → Type 0
 Wires n = (1 ≤ n) × (n ≤ maxWires)
-
--- ---- the checks that every entry makes
-
-weights-passes : (n lent : ℕ) (w : List ℕ) → (callFault n lent (weightsFault n w) ≡ 0) ↔ (Wires n × (lent ≡ 0) × SoundWeights parities n w)
-weights-passes n lent w = (
-  λ e. let a = call-passes n lent (weightsFault n w) e in ((a .0, a .1), a .2, weights-sound parities n w .0 (a .3)),
-  λ s. passes-call n lent (weightsFault n w) (s .0 .0) (s .0 .1) (s .1) (weights-sound parities n w .1 (s .2)),
-)
 
 -- ---- the entries
 
