@@ -25,7 +25,8 @@ three j bytes h =
     ∙ ap (λ (l : List ℕ). getD bytes (suc j) 0 ∷ l) (drop-cons bytes (suc (suc j)) 0 (omega arith))))
 
 -- one turn of a loop
-pub gates-step : (bytes : List ℕ) (i : ℕ) → gateBytes * i + 2 < length bytes → gatesFrom bytes i ≡ byteGate bytes i ∷ gatesFrom bytes (i + 1)
+pub gates-step : (bytes : List ℕ) (i : ℕ) → gateBytes * i + 2 < length bytes
+    → gatesFrom bytes i ≡ byteGate bytes i ∷ gatesFrom bytes (i + 1)
 unfolding gatesOf
 gates-step bytes i h =
     let e : gateBytes * i + gateBytes ≡ gateBytes * (i + 1) = omega arith in

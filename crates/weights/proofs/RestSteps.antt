@@ -135,7 +135,8 @@ module _ (size N n : ℕ) (w u : List ℕ) (fit : n ≤ N) (ww : Wide n w) (wu :
       go zero e = refl
       go (suc zero) e =
           let i = one-inside N n p fit h e in
-          sym (one-at N n (take (2 ^ n) (difference w u)) qs (lowest N p) (omega (arith, i))) ∙ one-by-difference n w u ww wu N fit (lowest N p) i
+          sym (one-at N n (take (2 ^ n) (difference w u)) qs (lowest N p) (omega (arith, i)))
+          ∙ one-by-difference n w u ww wu N fit (lowest N p) i
       go (suc (suc zero)) e =
           let i = next-inside N n p fit h e in
           pair-by-difference n w u ww wu N fit (lowest N p) (next N p) (i .0) (i .1)
