@@ -49,7 +49,7 @@ pub record Joinable (rows : List ℕ) (a b : ℕ) : Type 0 where
   pub a-wire : a < maxWires
   pub b-wire : b < maxWires
 
--- weights to which phase v can be added at parity p
+-- weights to which phase v can be added at parity p, which is its place
 pub record Addable (weights : List ℕ) (p v : ℕ) : Type 0 where
   pub long : length weights ≡ tableBytes
   pub inside : p < parities

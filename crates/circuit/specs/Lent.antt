@@ -33,7 +33,7 @@ frontGates k bytes = gatesOf (take (gateBytes * k) bytes)
 abbrev pub placed : List ℕ → ℕ → List ℕ → List ℕ
 placed was at these = take at was ++ these ++ drop (at + length these) was
 
--- k cells were written at the start, and the rest is as it was: the buffer is as long, and the same from place k on
+-- k numbers were written at the start, and all else is as it was: the buffer is as long, and the same from place k on
 pub record KeptFrom (k : ℕ) (was left : List ℕ) : Type 0 where
   pub long : length left ≡ length was
   pub kept : drop k left ≡ drop k was

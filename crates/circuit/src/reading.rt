@@ -41,7 +41,11 @@ pub fn read_gates(n: usize, gates: &[u8]) -> WeightsRows
         g += 1;
         match said {
             Kind::Cnot => join_rows(&mut rows, t.a, t.b),
-            Kind::Phase(v) => add_phase(&mut weights, cell_at(&rows, wire_of(t.a)), v),
+            Kind::Phase(v) => {
+                let i = wire_of(t.a);
+                let q = index_of(cell_at(&rows, i));
+                add_phase(&mut weights, q, v);
+            }
             Kind::Unknown => {}
         }
     }
@@ -80,12 +84,11 @@ fn join_rows(rows: &mut [Parity], a: u8, b: u8)
     put_cell(rows, j, p);
 }
 
-// A gate's phase is added, modulo 8, at the parity that its wire holds.
-fn add_phase(weights: &mut [Weight; TABLE_BYTES], p: Parity, v: Weight)
-    requires { ⌜ Addable (now weights) p v ⌝ }
-    ensures { λ _. ⌜ now (weights .exit) ≡ addAt 8 (now (weights .entry)) p v ⌝ }
+// A gate's phase is added, modulo 8, at the place of the parity that its wire holds.
+fn add_phase(weights: &mut [Weight; TABLE_BYTES], q: usize, v: Weight)
+    requires { ⌜ Addable (now weights) q v ⌝ }
+    ensures { λ _. ⌜ now (weights .exit) ≡ addAt 8 (now (weights .entry)) q v ⌝ }
 {
-    let q = index_of(p);
     weights[q] = (weights[q] + v) % 8;
 }
 

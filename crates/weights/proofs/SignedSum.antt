@@ -15,7 +15,7 @@ use Rattle.gf2.proofs.Sum.{sum-suc}
 use Rattle.gf2.specs.Bit.{bit}
 use Rattle.gf2.specs.Sum.{sum}
 use Rattle.gf2.specs.Table.{weightedSum}
-use Rattle.weights.specs.Sums.{sumWith}
+use Rattle.weights.specs.Sums.{mostByte, sumWith}
 
 -- ---- the sum so far
 
@@ -53,16 +53,16 @@ sum-small w i j k p s b e f h = rw (← e, ← f) h
 -- s is the sum over the first p parities, and z is what p adds
 pub record Turn (w : List ℕ) (i j k p s : ℕ) (z : ℤ) : Type 0 where
   pub sum-so-far : s ≡ soFar w i j k p
-  pub small : s ≤ 255 * p
-  pub byte : getD w p 0 ≤ 255
-  pub few : 255 * (p + 1) < 2 ^ 31
+  pub small : s ≤ mostByte * p
+  pub byte : getD w p 0 ≤ mostByte
+  pub few : mostByte * (p + 1) < 2 ^ 31
   pub share : z ≡ pos (shareOf (getD w p 0) p i j k)
 
 module _ {w : List ℕ} {i j k p s : ℕ} {z : ℤ} (t : Turn w i j k p s z) where
   abbrev r : ℕ
   r = shareOf (getD w p 0) p i j k
 
-  at-most : s + r ≤ 255 * (p + 1)
+  at-most : s + r ≤ mostByte * (p + 1)
   at-most = omega (arith, share-le (getD w p 0) p i j k, t .small, t .byte)
 
   fits : s + r < 2 ^ 31
@@ -77,7 +77,7 @@ module _ {w : List ℕ} {i j k p s : ℕ} {z : ℤ} (t : Turn w i j k p s z) whe
   pub turn-sums : ofZ w32 (toZ w32 s +ℤ toZ w32 (ofZ w32 z)) ≡ soFar w i j k (p + 1)
   turn-sums = rw added-is (ap (λ (x : ℕ). x + r) (t .sum-so-far) ∙ so-far-next w i j k p)
 
-  pub turn-small : ofZ w32 (toZ w32 s +ℤ toZ w32 (ofZ w32 z)) ≤ 255 * (p + 1)
+  pub turn-small : ofZ w32 (toZ w32 s +ℤ toZ w32 (ofZ w32 z)) ≤ mostByte * (p + 1)
   turn-small = rw added-is at-most
 
 -- ---- what one parity adds, by its bits

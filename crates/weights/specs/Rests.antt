@@ -14,10 +14,11 @@ use Rattle.gf2.specs.Sum.{sum}
 use Rattle.gf2.specs.Table.{tabulate}
 use Rattle.phase.specs.NewWeights.{apart, byWires, next}
 use Rattle.weights.specs.Lists.{lEntry, qList}
+use Rattle.weights.specs.Sums.{mostByte}
 
 -- no rest is more than three times a byte, before it is reduced
 abbrev pub mostRest : ℕ
-mostRest = 3 * 255
+mostRest = 3 * mostByte
 
 -- w less u, modulo 8: 7 is minus one
 unfoldable pub difference : List ℕ → List ℕ → List ℕ

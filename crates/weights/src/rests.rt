@@ -10,6 +10,7 @@ ghost use Rattle.circuit.specs.Sound.{SoundMarks, SoundWeights};
 ghost use Rattle.phase.specs.NewWeights.{apart, newWeights};
 ghost use Rattle.weights.specs.Rests.{DifferenceFits, RestsFit, TablesFit, difference, mostRest, newIn, oneIn, oneRests, pairIn};
 ghost use Rattle.weights.specs.Rests.{restIn, weightIn, weightsIn};
+ghost use Rattle.weights.specs.Sums.{mostByte};
 use crate::lists::Degree;
 use crate::lists::l_entry;
 use crate::lists::put_list;
@@ -110,7 +111,7 @@ fn pair_rest(x: Coefficient) -> u32
 }
 
 fn wide(x: u8) -> u32
-    ensures { λ r. ⌜ (r ≡ x) × (r ≤ 255) ⌝ }
+    ensures { λ r. ⌜ (r ≡ x) × (r ≤ mostByte) ⌝ }
 {
     x as u32
 }

@@ -7,7 +7,7 @@ ghost use lib.ListN.{length};
 ghost use Rattle.gf2.specs.Bit.{bit};
 ghost use Rattle.circuit.specs.Limits.{maxWires, parities};
 ghost use Rattle.phase.specs.Coefficients.{c, l, q};
-ghost use Rattle.weights.specs.Sums.{WiresBelow, sumWith, quarterOf};
+ghost use Rattle.weights.specs.Sums.{WiresBelow, mostByte, sumWith, quarterOf};
 use circuit::limits::Coefficient;
 use circuit::limits::Parity;
 use circuit::limits::Weight;
@@ -47,7 +47,7 @@ pub fn c_of(w: &[Weight], i: usize, j: usize, k: usize) -> Coefficient
 // The sum of the weights of parities with i, j and k, which need not differ.
 fn sum_with(w: &[Weight], i: usize, j: usize, k: usize) -> i32
     requires { ⌜ (length (now w) ≤ parities) × WiresBelow i j k ⌝ }
-    ensures { λ r. ⌜ (r ≡ pos (sumWith (now (w .entry)) i j k)) × (sumWith (now (w .entry)) i j k ≤ 255 * parities) ⌝ }
+    ensures { λ r. ⌜ (r ≡ pos (sumWith (now (w .entry)) i j k)) × (sumWith (now (w .entry)) i j k ≤ mostByte * parities) ⌝ }
 {
     let mut s: i32 = 0;
     let mut p: usize = 0;

@@ -1,17 +1,11 @@
--- The weight at the place of p, which is p.
+-- A weight and a phase below 8 fit a byte together.
 use native.Mathlib.Omega.{arith}
 use borrow.Author.Needs.{needs}
 use Rattle.circuit.proofs.reading.add_phase.Statement.{statement}
 use Rattle.circuit.proofs.reading.add_phase.Tie as tie
 
 add-weights : tie.Need-add-weights
-add-weights c =
-    let q : tie.After-index-of = search in
-    let s : tie.Start = search in
-    record { fits = rw (q .index-of .ensures .0) (omega (arith, s .pre .small, s .pre .phase)) }
-
-returns : tie.Need-returns
-returns c = let q : tie.After-index-of = search in rw (q .index-of .ensures .0)
+add-weights c = let s : tie.Start = search in record { fits = omega (arith, s .pre .small, s .pre .phase) }
 
 pub add-phase-spec : {M : Type 1} → statement M
-add-phase-spec = tie.close (tie.spec (λ c κs. search needs) (λ c. search needs) add-weights (λ c. search needs) returns)
+add-phase-spec = tie.close (tie.spec (λ c. search needs) add-weights (λ c. search needs) (λ c. search needs))

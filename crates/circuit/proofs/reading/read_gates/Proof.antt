@@ -83,22 +83,32 @@ cell-at-requires c κs =
     let wire = phase-wire (turn k) (g .gate-at .ensures) _ (sym (v .said .given .1) ∙ k .kind-of .ensures) in
     omega (arith, wire, i .wire-of .ensures, rows-long (turn k))
 
+index-of-requires : tie.Need-index-of-requires Inv-loop μ-loop
+index-of-requires c κs =
+    let p : tie.After-cell-at Inv-loop μ-loop = search in
+    let i : tie.After-wire-of Inv-loop μ-loop = search in
+    let k : Kinded = search in
+    omega (arith, p .cell-at .ensures, row-fits (turn k) (i .wire-of .result))
+
 add-phase-requires : tie.Need-add-phase-requires Inv-loop μ-loop
 add-phase-requires c κs =
-    let p : tie.After-cell-at Inv-loop μ-loop = search in
+    let q : tie.After-index-of Inv-loop μ-loop = search in
     let i : tie.After-wire-of Inv-loop μ-loop = search in
     let v : tie.After-said Inv-loop μ-loop = search in
     let k : Kinded = search in
+    let g : tie.After-gate-at Inv-loop μ-loop = search in
+    let wire = phase-wire (turn k) (g .gate-at .ensures) _ (sym (v .said .given .1) ∙ k .kind-of .ensures) in
     record {
       long = turn k .to .1 .weights .long;
-      inside = omega (arith, p .cell-at .ensures, row-fits (turn k) (i .wire-of .result));
-      small = turn k .to .1 .weights .small (p .cell-at .result);
+      inside = omega (arith, q .index-of .ensures .1, wire, i .wire-of .ensures);
+      small = turn k .to .1 .weights .small _;
       phase = phase-lt _ _ (sym (k .kind-of .ensures) ∙ v .said .given .1);
     }
 
 loop-again-2 : tie.Need-loop-again-2 Inv-loop μ-loop
 loop-again-2 c =
     let add : tie.After-add-phase Inv-loop μ-loop = search in
+    let q : tie.After-index-of Inv-loop μ-loop = search in
     let p : tie.After-cell-at Inv-loop μ-loop = search in
     let i : tie.After-wire-of Inv-loop μ-loop = search in
     let v : tie.After-said Inv-loop μ-loop = search in
@@ -107,7 +117,7 @@ loop-again-2 c =
       search needs,
       search needs,
       phase-on (turn k) (g .gate-at .ensures) _ (sym (v .said .given .1) ∙ k .kind-of .ensures)
-          (p .cell-at .ensures ∙ rw (i .wire-of .ensures)) (add .add-phase .ensures),
+          (q .index-of .ensures .0 ∙ p .cell-at .ensures ∙ rw (i .wire-of .ensures)) (add .add-phase .ensures),
     )
 
 loop-again-3 : tie.Need-loop-again-3 Inv-loop μ-loop
@@ -140,9 +150,10 @@ read-gates-spec =
     (λ c. search needs)
     loop-again
     (λ c. search needs)
-    (λ c. search needs)
     (λ c κs. search needs)
+    (λ c. search needs)
     cell-at-requires
+    index-of-requires
     add-phase-requires
     (λ c. search needs)
     loop-again-2

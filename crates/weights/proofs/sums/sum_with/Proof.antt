@@ -9,10 +9,11 @@ use Rattle.circuit.specs.Limits.{parities}
 use Rattle.gf2.specs.Sum.{sum}
 use Rattle.weights.proofs.SignedSum.{Turn, so-far-all, soFar, sum-small, turn-fits, turn-small, turn-sums}
 use Rattle.weights.proofs.sums.sum_with.Statement.{statement}
+use Rattle.weights.specs.Sums.{mostByte}
 use Rattle.weights.proofs.sums.sum_with.Tie as tie
 
 abbrev Inv-loop : tie.InvT-loop
-Inv-loop w i j k s₀ p₀ s p = (p ≤ length w) × (s ≡ soFar w i j k p) × (s ≤ 255 * p)
+Inv-loop w i j k s₀ p₀ s p = (p ≤ length w) × (s ≡ soFar w i j k p) × (s ≤ mostByte * p)
 
 abbrev μ-loop : tie.MeasureT-loop
 μ-loop w i j k s₀ p₀ s p = length w - p
@@ -56,7 +57,7 @@ returns c =
     let w = now (s .args .w) in
     let e : at .loop .p ≡ length w = omega arith in (
       so-far-all w _ _ _ (at .loop .p) _ e (at .loop .inv .1) (omega arith),
-      sum-small w _ _ _ (at .loop .p) (at .loop .s) (255 * parities) e (at .loop .inv .1) (omega arith),
+      sum-small w _ _ _ (at .loop .p) (at .loop .s) (mostByte * parities) e (at .loop .inv .1) (omega arith),
     )
 
 pub sum-with-spec : {M : Type 1} → statement M
