@@ -1,6 +1,6 @@
 -- The page to read: what the promise of `answer` means.
 use mathlib.Core.List.{List, [], _++_, _∷_}
-use mathlib.Core.Logic.{inl, inr}
+use mathlib.Core.Logic.{_≢_, inl, inr}
 use mathlib.Core.Path.{_∙_, _≡_, ap, refl, subst, sym}
 use Prim.Native.Nat.{_+_, _<_, _≤_, suc, zero, ℕ}
 use native.Mathlib.Decide.{decLt}
@@ -9,10 +9,12 @@ use lib.ListN.{drop, length, take}
 use lib.Seq.{take-append-seam}
 use Rattle.circuit.proofs.Bytes.{gates-in, gates-of-bytes, length-bytes}
 use Rattle.circuit.proofs.GateKinds.{kind-above, t-is-odd}
-use Rattle.circuit.proofs.Judging.{short-pass}
+use Rattle.circuit.proofs.Judging.{call-number, call-told, refuse-done, short-pass}
 use Rattle.circuit.proofs.Laws.{fault-is-first, odd-set-no-larger}
 use Rattle.circuit.proofs.Placing.{placed-kept}
-use Rattle.circuit.specs.Faults.{AllWellFormed, Has, KindHas, KindWellFormed, WellFormed, firstFault, gateAt, sameWire, shortFault}
+use Rattle.circuit.specs.Entry.{numberOf, placeOf}
+use Rattle.circuit.specs.Faults.{AllWellFormed, Has, KindHas, KindWellFormed, WellFormed, firstFault, gateAt, lentOutput}
+use Rattle.circuit.specs.Faults.{sameWire, shortFault}
 use Rattle.circuit.specs.Gate.{Gate, bytesOf, gate, gatesOf, kindOf, lastKind, tGates}
 use Rattle.circuit.specs.Lent.{KeptFrom}
 use Rattle.circuit.specs.Limits.{maxGates, maxWires, maxWrittenGates}
@@ -28,7 +30,7 @@ use Rattle.text.specs.Limits.{byteValues, replyBytes, textBytes}
 use Rattle.text.specs.Text.{Sayable, Text, circuit, faulty, readText}
 use Rattle.text.specs.Written.{gateLines, wiresLine}
 use Rattle.answer.proofs.AnswerWays.{little-room}
-use Rattle.answer.specs.Entry.{AnswerText, Outcome, Writes-printed}
+use Rattle.answer.specs.Entry.{AnswerText, OutLeft, Writes-printed}
 use Rattle.answer.specs.Printed.{Prints, PrintsGates, PrintsTrim}
 use Rattle.answer.specs.declared.Answered.{Answered}
 use Rattle.answer.specs.declared.Answered.the-variants.{Done, Refused}
@@ -38,7 +40,7 @@ use Rattle.answer.specs.declared.Answered.the-variants.{Done, Refused}
 -- a call with these bytes alone replies and leaves what one with the whole text may
 pub first-bytes-decide-reply : (t out out′ : List ℕ) (r : Answered) → AnswerText (take textBytes t) out out′ r → AnswerText t out out′ r
 first-bytes-decide-reply t out out′ r a =
-    record { outcome = rw (first-bytes-decide t) (a .outcome) }
+    record { reply = a .reply; out-left = rw (first-bytes-decide t) (a .out-left) }
 
 -- ---- what is left in the lent bytes
 
@@ -79,30 +81,24 @@ module _ (t out out′ : List ℕ) (count : ℕ) where
       }
 
   pub done-prints : AnswerText t out out′ (Done count) → Printed t out out′ count
-  done-prints a = go (shortFault (length out) replyBytes) refl (a .outcome)
+  done-prints a =
+      written (short-pass (length out) replyBytes (refuse-done (shortFault (length out) replyBytes) 0 reply.Done (sym (a .reply)) .0))
+      (a .out-left)
+
+  -- after a refusal they are as they were, and only too little room is refused, with 8 at place 0
+  pub refusal-leaves : (number place : ℕ) → AnswerText t out out′ (Refused number place)
+      → (out′ ≡ out) × (length out < replyBytes) × (number ≡ lentOutput) × (place ≡ 0)
+  refusal-leaves number place a =
+      let f : ℕ = shortFault (length out) replyBytes in
+      let some = call-number f (sym (a .reply)) in
+      let c = call-told f in
+      let number-is : number ≡ f = ap numberOf (a .reply) ∙ c .0 in
+      let little = little-room (length out) number-is some in
+      (left number some (a .out-left), little .0, little .1, ap placeOf (a .reply) ∙ c .1)
     where
-      never : (f : ℕ) → Done count ≡ Refused f 0 → ⊥
-      never f e = let z : _≡_ {A = ℕ} 0 1 = cc in omega arith
-
-      same : (k : ℕ) → Done count ≡ Done k → k ≡ count
-      same k e = cc
-
-      go : (f : ℕ) → shortFault (length out) replyBytes ≡ f → Outcome f (readText t) out out′ (Done count) → Printed t out out′ count
-      go zero e (k, is, w) =
-          written (short-pass (length out) replyBytes e) (subst (λ (x : ℕ). Writes-printed (readText t) out out′ x) (same k is) w)
-      go (suc f) e (is, left) = absurd (never (suc f) is)
-
-  -- after a refusal they are as they were, and only too little room is refused
-  pub refusal-leaves : (number place : ℕ) → AnswerText t out out′ (Refused number place) → (out′ ≡ out) × (length out < replyBytes)
-  refusal-leaves number place a = go (shortFault (length out) replyBytes) refl (a .outcome)
-    where
-      never : (k : ℕ) → Refused number place ≡ Done k → ⊥
-      never k e = let z : _≡_ {A = ℕ} 0 1 = cc in omega arith
-
-      go : (f : ℕ) → shortFault (length out) replyBytes ≡ f → Outcome f (readText t) out out′ (Refused number place)
-          → (out′ ≡ out) × (length out < replyBytes)
-      go zero e (k, is, w) = absurd (never k is)
-      go (suc f) e (is, left) = (left, little-room (length out) (sym e) (omega arith) .0)
+      left : (f : ℕ) → f ≢ 0 → OutLeft f 0 (readText t) out out′ → out′ ≡ out
+      left zero h e = absurd (h refl)
+      left (suc f) h e = e
 
 -- ---- no number has more digits than are printed
 

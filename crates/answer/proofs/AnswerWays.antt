@@ -2,13 +2,15 @@
 use mathlib.Core.List.{List}
 use mathlib.Core.Logic.{_≢_}
 use mathlib.Core.Path.{_∙_, _≡_, ap, ap₂, refl, subst, sym}
-use Prim.Native.Nat.{_*_, _/_, _<_, _≤_, ℕ}
+use Prim.Native.Nat.{_*_, _/_, _<_, _≤_, suc, zero, ℕ}
 use native.Mathlib.Decide.{decLe}
 use native.Mathlib.Omega.{arith}
 use lib.ListN.{length, length-take, take}
 use borrow.Author.Tests.{lt-leb}
 use Rattle.circuit.proofs.Bytes.{gates-in}
 use Rattle.circuit.proofs.Judging.{or-well, passes-list-call, short-well}
+use Rattle.circuit.proofs.TableRule.{call-done, call-refusal}
+use Rattle.circuit.specs.Entry.{numberOf}
 use Rattle.circuit.specs.Faults.{firstFault, lentOutput, listCallFault, refuse, shortFault}
 use Rattle.circuit.specs.Gate.{gatesOf}
 use Rattle.circuit.specs.Lent.{frontGates}
@@ -16,18 +18,19 @@ use Rattle.circuit.specs.Limits.{gateBytes, logCells, maxListBytes, writeBytes}
 use Rattle.circuit.specs.declared.Reply.{Reply}
 use Rattle.circuit.specs.declared.Reply.the-variants as reply
 use Rattle.text.proofs.TextLaws.{CircuitRead, done-reads, with-room}
-use Rattle.text.specs.Entry.{ReadText, replyOf}
+use Rattle.text.proofs.TextWays.{replyOf, reply-is}
+use Rattle.text.specs.Entry.{ReadText}
 use Rattle.text.specs.Limits.{replyBytes}
 use Rattle.text.specs.Placed.{Writes}
 use Rattle.text.specs.Text.{Sayable, Text, circuit, faulty, readText}
 use Rattle.text.specs.Written.{refusedLine}
 use Rattle.text.specs.declared.TextReply.{TextReply}
 use Rattle.text.specs.declared.TextReply.the-variants as read
-use Rattle.trimmer.specs.Entry.{Done-with, Outcome, TrimList, trimLent, verdict}
+use Rattle.trimmer.specs.Entry.{Done-with, TrimLeft, TrimList, countsOf, told, trimLent, verdict}
 use Rattle.trimmer.specs.declared.Counts.{Counts}
 use Rattle.trimmer.specs.declared.TrimReply.{TrimReply}
 use Rattle.trimmer.specs.declared.TrimReply.the-variants as trim
-use Rattle.answer.specs.Entry.{AnswerText, Writes-printed}
+use Rattle.answer.specs.Entry.{AnswerText, OutLeft, Writes-printed}
 use Rattle.answer.specs.Printed.{PrintsGates, trimLines}
 use Rattle.answer.specs.declared.Answered.the-variants.{Done, Refused}
 
@@ -50,23 +53,15 @@ module _ {n : ℕ} {g list log : List ℕ} (lent : Lent n g list log) where
   judged = ap (λ (f : ℕ). refuse f 0 (firstFault n 0 (gatesOf g))) no-fault
 
   module _ {list′ log′ : List ℕ} {r : TrimReply} (t : TrimList n g list log list′ log′ r) where
-    by-gates : Outcome (firstFault n 0 (gatesOf g)) n g list log list′ log′ r
-    by-gates = subst (λ (v : Reply). Outcome v n g list log list′ log′ r) judged (t .outcome)
+    by-gates : told r ≡ firstFault n 0 (gatesOf g)
+    by-gates = t .reply ∙ judged
 
     module _ {counts : Counts} (is : r ≡ trim.Done counts) where
       done : (firstFault n 0 (gatesOf g) ≡ reply.Done) × Done-with n g list log list′ log′ counts
-      done = go (firstFault n 0 (gatesOf g)) refl by-gates
-        where
-          same : (a : Counts) → trim.Done a ≡ trim.Done counts → a ≡ counts
-          same a e = cc
-
-          never : (number place : ℕ) → trim.Refused number place ≡ trim.Done counts → ⊥
-          never number place e = let z : _≡_ {A = ℕ} 0 1 = cc in omega arith
-
-          go : (v : Reply) → firstFault n 0 (gatesOf g) ≡ v → Outcome v n g list log list′ log′ r
-              → (firstFault n 0 (gatesOf g) ≡ reply.Done) × Done-with n g list log list′ log′ counts
-          go reply.Done e o = (e, subst (λ (k : Counts). Done-with n g list log list′ log′ k) (same (o .0) (sym (o .1) ∙ is)) (o .2))
-          go (reply.Refused number place) e o = absurd (never number place (sym (o .0) ∙ is))
+      done = (
+        sym by-gates ∙ ap told is,
+        subst (λ (x : TrimReply). TrimLeft (numberOf (told x)) (countsOf x) n g list log list′ log′) is (t .left),
+      )
 
       -- D stands within what was lent
       pub gates-within : gateBytes * counts .gates ≤ length list
@@ -94,21 +89,11 @@ module _ {n : ℕ} {g list log : List ℕ} (lent : Lent n g list log) where
 
     pub gate-printed : {number place : ℕ} {was left : List ℕ} {next : ℕ} → r ≡ trim.Refused number place
         → Writes was 0 (refusedLine number place) left next → Writes-printed (circuit n g) was left next
-    gate-printed {number} {place} {was} {left} {next} is w = go (firstFault n 0 (gatesOf g)) refl by-gates
-      where
-        same : (f p : ℕ) → trim.Refused f p ≡ trim.Refused number place → reply.Refused f p ≡ reply.Refused number place
-        same f p e = cc
-
-        never : (counts : Counts) → trim.Done counts ≡ trim.Refused number place → ⊥
-        never counts e = let z : _≡_ {A = ℕ} 0 1 = cc in omega arith
-
-        go : (v : Reply) → firstFault n 0 (gatesOf g) ≡ v → Outcome v n g list log list′ log′ r → Writes-printed (circuit n g) was left next
-        go reply.Done e o = absurd (never (o .0) (sym (o .1) ∙ is))
-        go (reply.Refused f p) e o = (
-          refusedLine number place,
-          subst (λ (v : Reply). PrintsGates v n (gatesOf g) (refusedLine number place)) (sym (e ∙ same f p (sym (o .0) ∙ is))) refl,
-          w,
-        )
+    gate-printed {number} {place} is w = (
+      refusedLine number place,
+      subst (λ (v : Reply). PrintsGates v n (gatesOf g) (refusedLine number place)) (sym (ap told is) ∙ by-gates) refl,
+      w,
+    )
 
 -- ---- the text, read with room lent for every list
 
@@ -124,8 +109,8 @@ module _ {t gates gates′ : List ℕ} {r : TextReply} (p : ReadText t gates gat
       → Writes-printed (readText t) was left next
   fault-printed {number} {place} room is w = go (readText t) refl
     where
-      told : read.Refused number place ≡ replyOf (readText t)
-      told = sym is ∙ p .reply ∙ ap replyOf (with-room (length gates) t room)
+      same-text : read.Refused number place ≡ replyOf (readText t)
+      same-text = sym is ∙ reply-is p ∙ ap replyOf (with-room (length gates) t room)
 
       same : (f q : ℕ) → read.Refused number place ≡ read.Refused f q → refusedLine number place ≡ refusedLine f q
       same f q e =
@@ -137,9 +122,9 @@ module _ {t gates gates′ : List ℕ} {r : TextReply} (p : ReadText t gates gat
       never n m e = let z : _≡_ {A = ℕ} 0 1 = cc in omega arith
 
       go : (x : Text) → readText t ≡ x → Writes-printed (readText t) was left next
-      go (circuit n bytes) e = absurd (never n (length bytes / gateBytes) (told ∙ ap replyOf e))
+      go (circuit n bytes) e = absurd (never n (length bytes / gateBytes) (same-text ∙ ap replyOf e))
       go (faulty f q) e =
-          subst (λ (x : Text). Writes-printed x was left next) (sym e) (refusedLine number place, same f q (told ∙ ap replyOf e), w)
+          subst (λ (x : Text). Writes-printed x was left next) (sym e) (refusedLine number place, same f q (same-text ∙ ap replyOf e), w)
 
 -- what a text that reads as a circuit brings
 pub circuit-said : {t gates gates′ : List ℕ} {r : TextReply} {n m : ℕ} → ReadText t gates gates′ r → r ≡ read.Done n m
@@ -161,10 +146,13 @@ little-room lent {f} e h = go (decLe replyBytes lent)
     go (yes l) = absurd (h (e ∙ short-well lent replyBytes l))
     go (no l) = (omega arith, e ∙ simp (lt-leb replyBytes lent (omega arith)))
 
-module _ (t out : List ℕ) where
-  pub too-little-room : length out < replyBytes → AnswerText t out out (Refused lentOutput 0)
-  too-little-room h = record { outcome = simp (lt-leb replyBytes (length out) h) (refl, refl) }
+module _ (t out : List ℕ) {f : ℕ} (judged : f ≡ shortFault (length out) replyBytes) where
+  pub too-little-room : f ≢ 0 → AnswerText t out out (Refused f 0)
+  too-little-room h = record { reply = call-refusal f (shortFault (length out) replyBytes) judged h; out-left = left f h }
+    where
+      left : (f : ℕ) → f ≢ 0 → OutLeft f 0 (readText t) out out
+      left zero h = absurd (h refl)
+      left (suc f) h = refl
 
-  pub answered : replyBytes ≤ length out → (out′ : List ℕ) (count : ℕ) → Writes-printed (readText t) out out′ count
-      → AnswerText t out out′ (Done count)
-  answered h out′ count w = record { outcome = rw (short-well (length out) replyBytes h) (count, refl, w) }
+  pub answered : f ≡ 0 → (out′ : List ℕ) (count : ℕ) → Writes-printed (readText t) out out′ count → AnswerText t out out′ (Done count)
+  answered clear out′ count w = record { reply = call-done f (shortFault (length out) replyBytes) judged clear; out-left = w }

@@ -6,20 +6,38 @@ use lib.ListN.{length}
 use Rattle.answer.specs.Printed.{Prints}
 use Rattle.answer.specs.declared.Answered.{Answered}
 use Rattle.answer.specs.declared.Answered.the-variants.{Done, Refused}
-use Rattle.circuit.specs.Faults.{shortFault}
+use Rattle.circuit.specs.Entry.{numberOf}
+use Rattle.circuit.specs.Faults.{callReply, shortFault}
+use Rattle.circuit.specs.declared.Reply.{Reply}
+use Rattle.circuit.specs.declared.Reply.the-variants as reply
 use Rattle.text.specs.Limits.{replyBytes}
 use Rattle.text.specs.Placed.{Writes}
 use Rattle.text.specs.Text.{Text, readText}
+
+-- ---- the reply
+
+-- each case in document 01's number and place: done, or the fault
+abbrev pub told : Answered → Reply
+told (Done bytes) = reply.Done
+told (Refused number place) = reply.Refused number place
+
+-- the number of bytes written, 0 where it refused
+abbrev pub bytesOf : Answered → ℕ
+bytesOf (Done bytes) = bytes
+bytesOf (Refused number place) = 0
+
+-- ---- the bytes lent
 
 -- the bytes that are printed for a text stand at the start of the lent ones, and the others are as they were
 abbrev pub Writes-printed : Text → List ℕ → List ℕ → ℕ → Type 0
 Writes-printed t was left count = (bytes : List ℕ) × Prints t bytes × Writes was 0 bytes left count
 
--- what is left and replied, by the fault of the call: the reply to the text; or that fault, and all as it was
-abbrev pub Outcome : ℕ → Text → List ℕ → List ℕ → Answered → Type 0
-Outcome zero t out out′ r = (count : ℕ) × (r ≡ Done count) × Writes-printed t out out′ count
-Outcome (suc fault) t out out′ r = (r ≡ Refused (suc fault) 0) × (out′ ≡ out)
+-- after a reply of that number: so many bytes of the reply to the text; or as they were
+abbrev pub OutLeft : (number count : ℕ) → Text → List ℕ → List ℕ → Type 0
+OutLeft zero count t out out′ = Writes-printed t out out′ count
+OutLeft (suc fault) count t out out′ = out′ ≡ out
 
 -- `answer`, called with this text and these lent bytes, replies r and leaves out′. Its one fault is 8: the longest reply does not fit
 pub record AnswerText (text out out′ : List ℕ) (r : Answered) : Type 0 where
-  pub outcome : Outcome (shortFault (length out) replyBytes) (readText text) out out′ r
+  pub reply : told r ≡ callReply (shortFault (length out) replyBytes)
+  pub out-left : OutLeft (numberOf (told r)) (bytesOf r) (readText text) out out′

@@ -4,14 +4,12 @@ ghost use mathlib.Core.Path.{_≡_};
 ghost use Rattle.circuit.specs.Entry.{numberOf, placeOf, ReadList};
 ghost use Rattle.weights.specs.Entry.{OddSetOf, CoefficientsOf, NewWeightsOf};
 ghost use Rattle.carry.specs.Entry.{CarriesOut};
-ghost use Rattle.finder.specs.Entry.{FindMove};
 ghost use Rattle.finder.specs.Entry as find;
-ghost use Rattle.synth.specs.Entry.{WriteList, writtenCount, writtenNumber, writtenPlace};
-ghost use Rattle.text.specs.Entry.{ReadText};
-ghost use Rattle.trimmer.specs.Entry.{TrimList};
-ghost use Rattle.answer.specs.Entry.{AnswerText};
-ghost use Rattle.capi.specs.InC.{InC, FindInC, WriteInC, TrimInC, foundOf, trimNumber, trimPlace, countsOf, TextInC, textNumber};
-ghost use Rattle.capi.specs.InC.{textPlace, textWires, textGates, AnswerInC, answerNumber, answerPlace, answerBytes, MoveInC};
+ghost use Rattle.synth.specs.Entry as write;
+ghost use Rattle.trimmer.specs.Entry as trim;
+ghost use Rattle.text.specs.Entry as read_text;
+ghost use Rattle.answer.specs.Entry as answers;
+ghost use Rattle.capi.specs.InC.{InC, FindInC, WriteInC, TrimInC, TextInC, AnswerInC, MoveInC};
 use answer::Answered;
 use circuit::Reply;
 use circuit::limits::Coefficient;
@@ -153,7 +151,7 @@ pub extern "C" fn sulmedra_carry_out(
 // `finder::find`.
 #[no_mangle]
 pub extern "C" fn sulmedra_find(n: usize, marks: &[Mark], cells: &mut [MoveCell]) -> SulmedraFound
-    ensures { λ r. ⌜ FindInC (FindMove n (now (marks .entry)) (now (cells .entry)) (now (cells .exit)))
+    ensures { λ r. ⌜ FindInC (find.FindMove n (now (marks .entry)) (now (cells .entry)) (now (cells .exit)))
         (r .number) (r .place) (r .found) ⌝ }
 {
     found_in_c(finder::find(n, marks, cells))
@@ -167,7 +165,7 @@ pub extern "C" fn sulmedra_write(
     rows: &[Parity],
     gates: &mut [u8],
 ) -> SulmedraWritten
-    ensures { λ r. ⌜ WriteInC (WriteList n (now (weights .entry)) (now (rows .entry)) (now (gates .entry)) (now (gates .exit)))
+    ensures { λ r. ⌜ WriteInC (write.WriteList n (now (weights .entry)) (now (rows .entry)) (now (gates .entry)) (now (gates .exit)))
         (r .number) (r .place) (r .gates) ⌝ }
 {
     written_in_c(synth::write(n, weights, rows, gates))
@@ -181,7 +179,7 @@ pub extern "C" fn sulmedra_trim(
     out: &mut [u8],
     log: &mut [MoveCell],
 ) -> SulmedraTrimmed
-    ensures { λ r. ⌜ TrimInC (TrimList n (now (gates .entry)) (now (out .entry)) (now (log .entry)) (now (out .exit)) (now (log .exit)))
+    ensures { λ r. ⌜ TrimInC (trim.TrimList n (now (gates .entry)) (now (out .entry)) (now (log .entry)) (now (out .exit)) (now (log .exit)))
         (r .number) (r .place) (r .tin) (r .odd) (r .tout) (r .moves) (r .gates) ⌝ }
 {
     trimmed_in_c(trimmer::trim(n, gates, out, log))
@@ -208,7 +206,7 @@ pub extern "C" fn sulmedra_move_at(log: &[MoveCell], k: usize) -> SulmedraPart
 // `text::read_text`.
 #[no_mangle]
 pub extern "C" fn sulmedra_read_text(text: &[u8], gates: &mut [u8]) -> SulmedraText
-    ensures { λ r. ⌜ TextInC (ReadText (now (text .entry)) (now (gates .entry)) (now (gates .exit)))
+    ensures { λ r. ⌜ TextInC (read_text.ReadText (now (text .entry)) (now (gates .entry)) (now (gates .exit)))
         (r .number) (r .place) (r .wires) (r .gates) ⌝ }
 {
     text_in_c(text::read_text(text, gates))
@@ -217,13 +215,13 @@ pub extern "C" fn sulmedra_read_text(text: &[u8], gates: &mut [u8]) -> SulmedraT
 // `answer::answer`.
 #[no_mangle]
 pub extern "C" fn sulmedra_answer(text: &[u8], out: &mut [u8]) -> SulmedraAnswered
-    ensures { λ r. ⌜ AnswerInC (AnswerText (now (text .entry)) (now (out .entry)) (now (out .exit))) (r .number) (r .place) (r .bytes) ⌝ }
+    ensures { λ r. ⌜ AnswerInC (answers.AnswerText (now (text .entry)) (now (out .entry)) (now (out .exit))) (r .number) (r .place) (r .bytes) ⌝ }
 {
     answered_in_c(answer::answer(text, out))
 }
 
 fn answered_in_c(reply: Answered) -> SulmedraAnswered
-    ensures { λ r. ⌜ (r .number ≡ answerNumber reply) × (r .place ≡ answerPlace reply) × (r .bytes ≡ answerBytes reply) ⌝ }
+    ensures { λ r. ⌜ (r .number ≡ numberOf (answers.told reply)) × (r .place ≡ placeOf (answers.told reply)) × (r .bytes ≡ answers.bytesOf reply) ⌝ }
 {
     match reply {
         Answered::Done { bytes } => SulmedraAnswered {
@@ -240,8 +238,8 @@ fn answered_in_c(reply: Answered) -> SulmedraAnswered
 }
 
 fn text_in_c(reply: TextReply) -> SulmedraText
-    ensures { λ r. ⌜ (r .number ≡ textNumber reply) × (r .place ≡ textPlace reply) × (r .wires ≡ textWires reply)
-        × (r .gates ≡ textGates reply) ⌝ }
+    ensures { λ r. ⌜ (r .number ≡ numberOf (read_text.told reply)) × (r .place ≡ placeOf (read_text.told reply)) × (r .wires ≡ read_text.wiresOf reply)
+        × (r .gates ≡ read_text.countOf reply) ⌝ }
 {
     match reply {
         TextReply::Done { n, gates } => SulmedraText {
@@ -260,7 +258,7 @@ fn text_in_c(reply: TextReply) -> SulmedraText
 }
 
 fn found_in_c(reply: Finding) -> SulmedraFound
-    ensures { λ r. ⌜ (r .number ≡ find.numberOf reply) × (r .place ≡ find.placeOf reply) × (r .found ≡ foundOf reply) ⌝ }
+    ensures { λ r. ⌜ (r .number ≡ numberOf (find.told reply)) × (r .place ≡ placeOf (find.told reply)) × (r .found ≡ find.foundOf reply) ⌝ }
 {
     match reply {
         Finding::Found => SulmedraFound {
@@ -282,7 +280,7 @@ fn found_in_c(reply: Finding) -> SulmedraFound
 }
 
 fn written_in_c(reply: Written) -> SulmedraWritten
-    ensures { λ r. ⌜ (r .number ≡ writtenNumber reply) × (r .place ≡ writtenPlace reply) × (r .gates ≡ writtenCount reply) ⌝ }
+    ensures { λ r. ⌜ (r .number ≡ numberOf (write.told reply)) × (r .place ≡ placeOf (write.told reply)) × (r .gates ≡ write.countOf reply) ⌝ }
 {
     match reply {
         Written::Done { count } => SulmedraWritten {
@@ -299,9 +297,9 @@ fn written_in_c(reply: Written) -> SulmedraWritten
 }
 
 fn trimmed_in_c(reply: TrimReply) -> SulmedraTrimmed
-    ensures { λ r. ⌜ (r .number ≡ trimNumber reply) × (r .place ≡ trimPlace reply) × (r .tin ≡ countsOf reply .tin)
-        × (r .odd ≡ countsOf reply .odd) × (r .tout ≡ countsOf reply .tout) × (r .moves ≡ countsOf reply .moves)
-        × (r .gates ≡ countsOf reply .gates) ⌝ }
+    ensures { λ r. ⌜ (r .number ≡ numberOf (trim.told reply)) × (r .place ≡ placeOf (trim.told reply)) × (r .tin ≡ trim.countsOf reply .tin)
+        × (r .odd ≡ trim.countsOf reply .odd) × (r .tout ≡ trim.countsOf reply .tout) × (r .moves ≡ trim.countsOf reply .moves)
+        × (r .gates ≡ trim.countsOf reply .gates) ⌝ }
 {
     match reply {
         TrimReply::Done(counts) => SulmedraTrimmed {

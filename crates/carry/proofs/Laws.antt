@@ -2,10 +2,12 @@
 use mathlib.Core.Bool.{Bool, cond, false, true}
 use mathlib.Core.List.{List, []}
 use mathlib.Core.Logic.{_↔_, _≢_}
-use mathlib.Core.Path.{_∙_, _≡_, ap, refl}
+use mathlib.Core.Path.{_∙_, _≡_, ap, refl, sym}
 use Prim.Native.Nat.{_*_, _+_, _<_, _≤_, ℕ}
+use native.Mathlib.Omega.{arith}
 use lib.ListN.{drop, length, take}
-use Rattle.circuit.proofs.Judging.{refuse-done, refused, refused-not-done}
+use Rattle.circuit.proofs.Judging.{after-refusal, done-number, refusal-number, refuse-done, refused, refused-not-done}
+use Rattle.circuit.specs.Entry.{after, numberOf}
 use Rattle.circuit.specs.Faults.{badMove, refuse}
 use Rattle.circuit.specs.Limits.{maxMembers, moveCells}
 use Rattle.circuit.specs.TableFaults.{Marked}
@@ -13,6 +15,7 @@ use Rattle.circuit.specs.declared.Reply.{Reply}
 use Rattle.circuit.specs.declared.Reply.the-variants.{Done, Refused}
 use Rattle.moves.proofs.Deciding.{move-is, move-yes}
 use Rattle.moves.proofs.Logs.{cells-say, move-short, move-whole}
+use Rattle.moves.specs.CarryOut.{carryOut}
 use Rattle.moves.specs.Decide.{isMove}
 use Rattle.moves.specs.Log.{LegalCells, asCells, moveAt, setOf, zOf}
 use Rattle.moves.specs.Move.{Legal}
@@ -49,10 +52,22 @@ carry-accepts n marks cells = (
     only-true true e = refl
     only-true false e = absurd (refused-not-done badMove 0 e)
 
+-- number 0 says done: a refusal has another
+pub carry-number : (n : ℕ) (marks cells : List ℕ) {number place : ℕ} → carryReply n marks cells ≡ Refused number place → number ≢ 0
+carry-number n marks cells {number} {place} =
+    refusal-number (carryFault n marks) 0 (cond (isMove maxMembers n marks cells) Done (Refused badMove 0))
+    (judged (isMove maxMembers n marks cells))
+  where
+    judged : (t : Bool) → cond t Done (Refused badMove 0) ≡ Refused number place → number ≢ 0
+    judged true e = done-number e
+    judged false e = let s : badMove ≡ number = cc in omega arith
+
 module _ (n : ℕ) (marks cells marks′ : List ℕ) (r : Reply) (promise : CarriesOut n marks cells marks′ r) where
   -- a refusal leaves the marks as they were
   pub refusal-leaves : (number place : ℕ) → r ≡ Refused number place → marks′ ≡ marks
-  refusal-leaves number place e = rw e at (promise .marks-left)
+  refusal-leaves number place e =
+      promise .marks-left ∙ ap (λ (v : Reply). after (numberOf v) (carryOut marks (zOf cells) (setOf cells)) marks) e
+      ∙ sym (after-refusal number _ marks (carry-number n marks cells (sym (promise .reply) ∙ e)))
 
   -- the first fault of the call, with place 0
   pub refusal-says : carryFault n marks ≢ 0 → r ≡ Refused (carryFault n marks) 0

@@ -6,7 +6,7 @@ use mathlib.Core.Path.{_∙_, _≡_, ap, refl, sym}
 use Prim.Native.Nat.{_<_, _^_, _≤_, ℕ}
 use lib.ListN.{length}
 use lib.Pow.{pow-mono}
-use Rattle.circuit.proofs.Judging.{lent-well, refused, refused-not-done}
+use Rattle.circuit.proofs.Judging.{after-refusal, lent-well, refused, refused-not-done}
 use Rattle.circuit.proofs.TableRule.{marks-passes}
 use Rattle.circuit.specs.Faults.{badMove, lentFault, refuse}
 use Rattle.circuit.specs.Limits.{maxMembers, maxWires, parities, tableBytes}
@@ -43,7 +43,7 @@ call-refused {n} {f} {m} {b} e h =
     record {
       reply = sym (refused f 0 (judge n m b) h) ∙ ap (λ (x : ℕ). refuse x 0 (judge n m b)) e;
       judged = λ z. absurd (h (e ∙ z));
-      marks-left = refl;
+      marks-left = after-refusal f _ m h;
       signature = λ d. absurd (refused-not-done f 0 d);
       sound = λ d. absurd (refused-not-done f 0 d);
       smaller = λ d. absurd (refused-not-done f 0 d);

@@ -5,7 +5,7 @@ use mathlib.Core.Logic.{_⊎_}
 use mathlib.Core.Path.{_≡_}
 use Prim.Native.Nat.{_+_, _≤_, ℕ}
 use lib.ListN.{length}
-use Rattle.circuit.specs.Entry.{after}
+use Rattle.circuit.specs.Entry.{after, numberOf}
 use Rattle.circuit.specs.Faults.{badMove, lentFault, refuse}
 use Rattle.circuit.specs.Limits.{maxMembers, parities, tableBytes}
 use Rattle.circuit.specs.OddSet.{members}
@@ -33,7 +33,7 @@ pub record CarriesOut (n : ℕ) (marks cells marks′ : List ℕ) (r : Reply) : 
   pub judged : carryFault n marks ≡ 0
       → ((r ≡ Done) × LegalCells maxMembers n marks cells) ⊎ ((r ≡ Refused badMove 0) × (LegalCells maxMembers n marks cells → ⊥))
   -- the move that the cells say, carried out; or as they were
-  pub marks-left : marks′ ≡ after r (carryOut marks (zOf cells) (setOf cells)) marks
+  pub marks-left : marks′ ≡ after (numberOf r) (carryOut marks (zOf cells) (setOf cells)) marks
   -- the signature stays; the marks are sound again; the odd set shrinks by one at least
   pub signature : r ≡ Done → SameSignature n marks′ marks
   pub sound : r ≡ Done → SoundMarks parities n marks′

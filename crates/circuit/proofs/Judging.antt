@@ -11,7 +11,8 @@ use lib.ListN.{length}
 use borrow.Author.Tests.{eq-eqb, le-leb, lt-leb, ne-eqb}
 use Rattle.circuit.specs.Faults.{Accepted, AllWellFormed, FirstFault, Has, KindHas, KindWellFormed, WellFormed}
 use Rattle.circuit.specs.Faults.{cnotFault, firstFault, gateAt, gateFault, gateWire, kindFault, oneWireFault, refuse, sameWire}
-use Rattle.circuit.specs.Faults.{lentFault, listCallFault, listFault, listReply, orElse, shortFault, wiresFault}
+use Rattle.circuit.specs.Entry.{after, numberOf, placeOf}
+use Rattle.circuit.specs.Faults.{callReply, lentFault, listCallFault, listFault, listReply, orElse, shortFault, wiresFault}
 use Rattle.circuit.specs.Gate.{Gate, gate, gatesOf, kindOf}
 use Rattle.circuit.specs.Limits.{gateBytes, maxListBytes, maxWires}
 use Rattle.circuit.specs.declared.gates.Kind.{Kind}
@@ -255,6 +256,15 @@ pub refused : (f i : ℕ) (rest : Reply) → f ≢ 0 → refuse f i rest ≡ Ref
 refused zero i rest h = absurd (h refl)
 refused (suc f) i rest h = refl
 
+-- a refusal's number is never 0: that of a fault of the call, or of what comes after it
+pub refusal-number : (f i : ℕ) (rest : Reply) {number place : ℕ} → (rest ≡ Refused number place → number ≢ 0)
+    → refuse f i rest ≡ Refused number place → number ≢ 0
+refusal-number zero i rest h e = h e
+refusal-number (suc f) i rest {number} h e = let s : suc f ≡ number = cc in omega arith
+
+pub done-number : {number place : ℕ} → Done ≡ Refused number place → number ≢ 0
+done-number {number} {place} e = absurd (refused-not-done number place (sym e))
+
 pub done-formed : (n i : ℕ) (gs : List Gate) → firstFault n i gs ≡ Done → AllWellFormed n gs
 unfolding firstFault
 done-formed n i [] e = tt
@@ -316,6 +326,11 @@ refused-first n i (g ∷ gs) number place e = go (ℕ-discrete (gateFault n g) 0
           },
         )
 
+pub first-number : (n : ℕ) (gs : List Gate) {number place : ℕ} → firstFault n 0 gs ≡ Refused number place → number ≢ 0
+first-number n gs {number} {place} e =
+    let t = refused-first n 0 gs number place e in
+    has-some n number (gateAt gs (t .0)) (t .2 .has)
+
 -- ---- a call that brings a list is done exactly if the list is accepted and what it lends has its length
 
 pub list-done : (n : ℕ) (bytes : List ℕ) (lent : ℕ) → listReply n bytes lent ≡ Done → Accepted n bytes × (lent ≡ 0)
@@ -327,3 +342,26 @@ list-done n bytes lent e =
 pub done-list : (n : ℕ) (bytes : List ℕ) (lent : ℕ) → Accepted n bytes → lent ≡ 0 → listReply n bytes lent ≡ Done
 done-list n bytes lent a z =
     rw (passes-list-call n (length bytes) lent (a .some) (a .few) (a .whole) (a .short) z) (formed-done n 0 (gatesOf bytes) (a .formed))
+
+-- ---- number 0 says that a call is done
+
+pub list-number : (n : ℕ) (bytes : List ℕ) (lent : ℕ) {number place : ℕ} → listReply n bytes lent ≡ Refused number place → number ≢ 0
+list-number n bytes lent {number} {place} =
+    refusal-number (listCallFault n (length bytes) lent) 0 (firstFault n 0 (gatesOf bytes)) (first-number n (gatesOf bytes))
+
+pub call-number : (f : ℕ) {number place : ℕ} → callReply f ≡ Refused number place → number ≢ 0
+call-number f = refusal-number f 0 Done done-number
+
+-- the reply to a call has the number of its fault, at place 0
+pub call-told : (f : ℕ) → (numberOf (callReply f) ≡ f) × (placeOf (callReply f) ≡ 0)
+call-told zero = (refl, refl)
+call-told (suc f) = (refl, refl)
+
+pub zero-done : (v : Reply) → ((number place : ℕ) → v ≡ Refused number place → number ≢ 0) → numberOf v ≡ 0 → v ≡ Done
+zero-done Done h e = refl
+zero-done (Refused number place) h e = absurd (h number place refl e)
+
+-- and any other leaves a lent buffer as it was
+pub after-refusal : (number : ℕ) (written was : List ℕ) → number ≢ 0 → was ≡ after number written was
+after-refusal zero written was h = absurd (h refl)
+after-refusal (suc number) written was h = refl

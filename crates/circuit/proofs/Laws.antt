@@ -1,15 +1,18 @@
 -- The laws of circuits on one page, for lists, replies and buffers as document 01 words them. The proofs are in the modules named.
 use mathlib.Core.List.{_++_, List, _∷_}
-use mathlib.Core.Logic.{_⊎_}
+use mathlib.Core.Logic.{_↔_, _⊎_}
 use mathlib.Core.Path.{ap, ap₂, refl, subst, sym, _∙_, _≡_}
 use Prim.Native.Nat.{_+_, _<_, _^_, ℕ, _≤_}
+use native.Mathlib.Nat.{zero-add}
 use native.Mathlib.Omega.{arith}
-use lib.ListN.{length}
-use Rattle.circuit.proofs.Judging.{done-list, first-refused, lent-pass, lent-well, list-done, or-pass, or-well, refused-first}
+use lib.ListN.{getD, length}
+use Rattle.circuit.proofs.Invertible.{distinct-independent, independent-distinct}
+use Rattle.circuit.proofs.Judging.{done-list, first-refused, lent-pass, lent-well, list-done, list-number}
+use Rattle.circuit.proofs.Judging.{or-pass, or-well, refused-first, zero-done}
 use Rattle.circuit.proofs.OddSet.{odd-set-at-most-t, t-moves-one}
 use Rattle.circuit.proofs.ReadRuns.{read-runs}
 use Rattle.circuit.proofs.Sound.{read-sound}
-use Rattle.circuit.specs.Entry.{ReadList, readBytes, readLent, readReply}
+use Rattle.circuit.specs.Entry.{ReadList, numberOf, readBytes, readLent, readReply}
 use Rattle.circuit.specs.Faults.{Accepted, AllWellFormed, FirstFault, WellFormed, firstFault, lentFault}
 use Rattle.circuit.specs.Gate.{Gate, gate, gatesOf, isT, tGates}
 use Rattle.circuit.specs.Lent.{readingLent}
@@ -18,9 +21,10 @@ use Rattle.circuit.specs.Limits.{rowCells, tableBytes, writeBytes}
 use Rattle.circuit.specs.OddSet.{members, oddSet}
 use Rattle.circuit.specs.Read.{Reading, read}
 use Rattle.circuit.specs.Run.{run}
-use Rattle.circuit.specs.Says.{says}
+use Rattle.circuit.specs.Says.{endState, says}
 use Rattle.circuit.specs.Sound.{SoundReading}
 use Rattle.circuit.specs.declared.Reply.the-variants.{Done, Refused}
+use Rattle.gf2.specs.Selection.{Independent}
 
 -- ---- demand 2: nothing in the weights and rows read from a list differs from the list run gate by gate. For every n and N
 
@@ -31,6 +35,11 @@ reading-is-running = read-runs
 -- what reading gives is sound: weights below 8 and none beyond n, rows invertible
 pub reading-is-sound : (N n : ℕ) → n ≤ N → (gs : List Gate) → AllWellFormed n gs → SoundReading N n (read N n gs)
 reading-is-sound = read-sound
+
+-- invertible rows are those that tell the states apart: independent exactly if no two basis states below 2^n end in the same state
+pub independent-exactly : (n : ℕ) (rows : List ℕ) → ((i : ℕ) → getD rows i 0 < 2 ^ n)
+    → Independent n rows ↔ ((x y : ℕ) → x < 2 ^ n → y < 2 ^ n → endState n rows x ≡ endState n rows y → x ≡ y)
+independent-exactly n rows within = (independent-distinct n rows within, distinct-independent n rows)
 
 -- one T or T dagger put anywhere moves the size of the odd set by exactly one, up or down
 pub one-t-moves-one : (N n : ℕ) → n ≤ N → (xs ys : List Gate) (kind a b : ℕ) → AllWellFormed n xs → AllWellFormed n ys
@@ -66,12 +75,24 @@ fault-is-first n gs number place e =
     let p : place ≡ t .0 = omega (arith, t .1) in
     rw p (t .2)
 
+-- the first fault of a list is the one computed
+pub first-is-fault : (n : ℕ) (gs : List Gate) (number place : ℕ) → FirstFault n gs number place → firstFault n 0 gs ≡ Refused number place
+first-is-fault n gs number place f = rw (zero-add place) at (first-refused n 0 gs number place f)
+
 -- and a list has only one first fault
 pub fault-is-unique : (n : ℕ) (gs : List Gate) (f i g j : ℕ) → FirstFault n gs f i → FirstFault n gs g j → (f ≡ g) × (i ≡ j)
 fault-is-unique n gs f i g j a b =
     let e : Refused f (0 + i) ≡ Refused g (0 + j) = sym (first-refused n 0 gs f i a) ∙ first-refused n 0 gs g j b in
     let p : 0 + i ≡ 0 + j = cc in
     (cc, omega arith)
+
+-- number 0 says done, and nothing else does
+pub read-number : (n : ℕ) (bytes : List ℕ) (weights rows : ℕ)
+    → (numberOf (readReply n bytes weights rows) ≡ 0) ↔ (readReply n bytes weights rows ≡ Done)
+read-number n bytes weights rows = (
+  zero-done (readReply n bytes weights rows) (λ number place. list-number n bytes (readLent weights rows)),
+  λ e. ap numberOf e,
+)
 
 -- ---- what the promise of `read` means: after Done the outputs tell, for every basis state, where the list brings it and with which phase
 

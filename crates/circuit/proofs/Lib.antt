@@ -5,6 +5,7 @@ pub mod Widths
 pub mod GateKinds
 pub mod Sound
 pub mod ReadRuns
+pub mod Invertible
 pub mod OddSet
 pub mod Judging
 pub mod TableRule

@@ -3,7 +3,7 @@ use mathlib.Core.List.{List}
 use mathlib.Core.Path.{ap, refl, sym, _∙_, _≡_}
 use Prim.Native.Nat.{ℕ}
 use lib.ListN.{length}
-use Rattle.circuit.proofs.Judging.{lent-pass, list-done, or-pass}
+use Rattle.circuit.proofs.Judging.{after-refusal, lent-pass, list-done, list-number, or-pass}
 use Rattle.circuit.proofs.Sound.{read-sound}
 use Rattle.circuit.specs.Entry.{ReadInto, ReadList, ReadOut, readBytes, readLent, readReply}
 use Rattle.circuit.specs.Faults.{lentFault}
@@ -17,7 +17,13 @@ use Rattle.circuit.specs.declared.Reply.the-variants.{Done, Refused}
 
 module _ {n : ℕ} {g w s : List ℕ} {found : Reply} (judged : found ≡ readReply n g (length w) (length s)) where
   pub read-refused : {number place : ℕ} → found ≡ Refused number place → ReadList n g w s w s (Refused number place)
-  read-refused e = record { reply = sym e ∙ judged; weights-left = refl; rows-left = refl }
+  read-refused {number} e =
+      let some = list-number n g (readLent (length w) (length s)) (sym judged ∙ e) in
+      record {
+        reply = sym e ∙ judged;
+        weights-left = after-refusal number _ w some;
+        rows-left = after-refusal number _ s some;
+      }
 
   pub may-read : found ≡ Done → ReadInto n g w s
   may-read e =

@@ -1,7 +1,7 @@
 -- The entry `read`: its reply and what it leaves in the lent buffers, for sound and faulty arguments alike.
 use mathlib.Core.List.{List}
 use mathlib.Core.Path.{_≡_}
-use Prim.Native.Nat.{_<_, ℕ}
+use Prim.Native.Nat.{_<_, suc, zero, ℕ}
 use lib.ListN.{getD, length}
 use Rattle.circuit.specs.Faults.{Accepted, lentFault, listReply, orElse}
 use Rattle.circuit.specs.Gate.{gatesOf}
@@ -61,13 +61,13 @@ pub record ReadOut (n : ℕ) (bytes weights rows : List ℕ) : Type 0 where
   pub weights-are : weights ≡ weightsLent (readBytes n bytes)
   pub rows-are : rows ≡ rowsLent (readBytes n bytes)
 
--- a lent buffer after a reply: what is to be written, or as it was
-abbrev pub after : Reply → List ℕ → List ℕ → List ℕ
-after Done written was = written
-after (Refused number place) written was = was
+-- a lent buffer after a reply of that number: what is to be written where there is no fault, else as it was
+abbrev pub after : ℕ → List ℕ → List ℕ → List ℕ
+after zero written was = written
+after (suc fault) written was = was
 
 -- `read`, called with these bytes, weights and rows, replies r and leaves weights′ and rows′
 pub record ReadList (n : ℕ) (bytes weights rows weights′ rows′ : List ℕ) (r : Reply) : Type 0 where
   pub reply : r ≡ readReply n bytes (length weights) (length rows)
-  pub weights-left : weights′ ≡ after r (weightsLent (readBytes n bytes)) weights
-  pub rows-left : rows′ ≡ after r (rowsLent (readBytes n bytes)) rows
+  pub weights-left : weights′ ≡ after (numberOf r) (weightsLent (readBytes n bytes)) weights
+  pub rows-left : rows′ ≡ after (numberOf r) (rowsLent (readBytes n bytes)) rows

@@ -1,19 +1,20 @@
 -- The laws of the entry `find` on one page: which calls it accepts, and what its promise means.
 use mathlib.Core.List.{List}
 use mathlib.Core.Logic.{_↔_, _≢_}
-use mathlib.Core.Path.{_≡_, ap, refl, subst}
-use Prim.Native.Nat.{_*_, _+_, _/_, _≤_, ℕ}
-use native.Mathlib.Decide.{ℕ-discrete}
+use mathlib.Core.Path.{_∙_, _≡_, ap, refl, subst}
+use Prim.Native.Nat.{_*_, _+_, _/_, _≤_, suc, zero, ℕ}
 use lib.ListN.{length}
-use Rattle.circuit.proofs.Judging.{lent-pass, lent-well}
+use Rattle.circuit.proofs.Judging.{call-told, lent-pass, lent-well, refused-not-done}
 use Rattle.circuit.proofs.TableRule.{marks-passes}
-use Rattle.circuit.specs.Faults.{lentFault}
+use Rattle.circuit.specs.Entry.{numberOf, placeOf}
+use Rattle.circuit.specs.Faults.{callReply, lentFault}
 use Rattle.circuit.specs.Limits.{maxMembers, maxWires, moveCells, parities}
 use Rattle.circuit.specs.OddSet.{members}
 use Rattle.circuit.specs.Sound.{SoundMarks}
+use Rattle.circuit.specs.declared.Reply.the-variants.{Done}
 use Rattle.moves.proofs.Laws.{limits-suffice, none-legal-bound}
 use Rattle.moves.specs.Move.{Movable, NoneLegal}
-use Rattle.finder.specs.Entry.{Answers, FindMove, findFault, numberOf, placeOf}
+use Rattle.finder.specs.Entry.{CellsLeft, FindMove, findFault, foundOf, told}
 use Rattle.finder.specs.declared.Finding.{Finding}
 use Rattle.finder.specs.declared.Finding.the-variants.{Found, Nothing, Refused}
 
@@ -34,56 +35,47 @@ find-accepts n marks cells = (
 )
 
 module _ (n : ℕ) (marks cells cells′ : List ℕ) where
-  answer-found : (r : Finding) → Answers n marks cells cells′ r → Movable maxMembers n marks → r ≡ Found
-  answer-found Found a m = refl
-  answer-found Nothing a m = absurd (a .1 (m .z) (m .Y) (m .legal))
-  answer-found (Refused number place) a m = absurd a
+  abbrev Left : Finding → Type 0
+  Left r = CellsLeft (numberOf (told r)) (foundOf r) n marks cells cells′
 
-  answer-none : (r : Finding) → Answers n marks cells cells′ r → NoneLegal maxMembers n marks → r ≡ Nothing
-  answer-none Found a none = absurd (none (a .z) (a .Y) (a .legal))
-  answer-none Nothing a none = refl
-  answer-none (Refused number place) a none = absurd a
+  answer-found : (r : Finding) → told r ≡ Done → Left r → Movable maxMembers n marks → r ≡ Found
+  answer-found Found d a m = refl
+  answer-found Nothing d a m = absurd (a .1 (m .z) (m .Y) (m .legal))
+  answer-found (Refused number place) d a m = absurd (refused-not-done number place d)
 
-  answer-same : (r : Finding) → Answers n marks cells cells′ r → r ≢ Found → cells′ ≡ cells
+  answer-none : (r : Finding) → told r ≡ Done → Left r → NoneLegal maxMembers n marks → r ≡ Nothing
+  answer-none Found d a none = absurd (none (a .z) (a .Y) (a .legal))
+  answer-none Nothing d a none = refl
+  answer-none (Refused number place) d a none = absurd (refused-not-done number place d)
+
+  answer-same : (r : Finding) → Left r → r ≢ Found → cells′ ≡ cells
   answer-same Found a ne = absurd (ne refl)
   answer-same Nothing a ne = a .0
-  answer-same (Refused number place) a ne = absurd a
-
-  answer-number : (r : Finding) → Answers n marks cells cells′ r → (numberOf r ≡ 0) × (placeOf r ≡ 0)
-  answer-number Found a = (refl, refl)
-  answer-number Nothing a = (refl, refl)
-  answer-number (Refused number place) a = absurd a
+  answer-same (Refused zero place) a ne = a .0
+  answer-same (Refused (suc number) place) a ne = a
 
   module _ (r : Finding) (h : FindMove n marks cells cells′ r) where
     -- the reply has document 01's number and place of the first fault, or none
-    pub find-number : (numberOf r ≡ findFault n marks (length cells)) × (placeOf r ≡ 0)
-    find-number = go (ℕ-discrete (findFault n marks (length cells)) 0)
-      where
-        go : Dec (findFault n marks (length cells) ≡ 0) → (numberOf r ≡ findFault n marks (length cells)) × (placeOf r ≡ 0)
-        go (yes e) = let a = answer-number r (h .answers e) in (rw e (a .0), a .1)
-        go (no ne) = let e = h .refuses ne .0 in (ap numberOf e, ap placeOf e)
+    pub find-number : (numberOf (told r) ≡ findFault n marks (length cells)) × (placeOf (told r) ≡ 0)
+    find-number = let c = call-told (findFault n marks (length cells)) in (ap numberOf (h .reply) ∙ c .0, ap placeOf (h .reply) ∙ c .1)
 
     -- the cells lent stay as they were unless a move was found
     pub find-keeps : r ≢ Found → cells′ ≡ cells
-    find-keeps ne = go (ℕ-discrete (findFault n marks (length cells)) 0)
-      where
-        go : Dec (findFault n marks (length cells) ≡ 0) → cells′ ≡ cells
-        go (yes e) = answer-same r (h .answers e) ne
-        go (no d) = h .refuses d .1
+    find-keeps = answer-same r (h .cells-left)
 
     module _ (sound : Sound n marks (length cells)) where
-      answered : Answers n marks cells cells′ r
-      answered = h .answers (find-accepts n marks (length cells) .1 sound)
+      done : told r ≡ Done
+      done = h .reply ∙ ap callReply (find-accepts n marks (length cells) .1 sound)
 
       -- a move is found exactly where there is one, and none exactly where there is none
       pub found-exactly : (r ≡ Found) ↔ Movable maxMembers n marks
       found-exactly = (
-        λ e. let a = subst (Answers n marks cells cells′) e answered in record { z = a .z; Y = a .Y; legal = a .legal },
-        answer-found r answered,
+        λ e. let a = subst Left e (h .cells-left) in record { z = a .z; Y = a .Y; legal = a .legal },
+        answer-found r done (h .cells-left),
       )
 
       pub none-exactly : (r ≡ Nothing) ↔ NoneLegal maxMembers n marks
-      none-exactly = (λ e. let a = subst (Answers n marks cells cells′) e answered in a .1, answer-none r answered)
+      none-exactly = (λ e. let a = subst Left e (h .cells-left) in a .1, answer-none r done (h .cells-left))
 
       -- where none is found, the odd set has at most (n² + n)/2 + 1 members
       pub none-few : r ≡ Nothing → members marks ≤ (n * n + n) / 2 + 1

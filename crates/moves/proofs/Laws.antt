@@ -25,13 +25,13 @@ use Rattle.moves.proofs.Logs.{cells-unique}
 use Rattle.moves.proofs.OneXor.{balanced-iff}
 use Rattle.moves.proofs.Pairs.{none-reached, offer-iff}
 use Rattle.moves.proofs.Products.{product-bit, product-by-bits, product-lt, tri-mono, tri-square}
-use Rattle.moves.proofs.Replaying.{replays-shrinks, replays-signature}
+use Rattle.moves.proofs.Replaying.{replays-held, replays-one-number, replays-shrinks, replays-signature}
 use Rattle.moves.proofs.Shrink.{shrinks}
 use Rattle.moves.proofs.Wires.{legal-wires}
 use Rattle.moves.specs.CarryOut.{carryOut}
 use Rattle.moves.specs.Decide.{isMove}
 use Rattle.moves.specs.Kappa.{kappa}
-use Rattle.moves.specs.Log.{LegalCells, asCells}
+use Rattle.moves.specs.Log.{LegalCells, asCells, logged}
 use Rattle.moves.specs.Move.{Balanced, Legal, Member, NoneLegal}
 use Rattle.moves.specs.Pair.{Offer, Reach}
 use Rattle.moves.specs.Product.{product, tri}
@@ -108,6 +108,14 @@ replay-keeps-signature = replays-signature
 pub replay-shrinks : (size n most : ℕ) → 2 ^ n ≤ size → (m : List ℕ) (moves : List (List ℕ)) (m′ : List ℕ) → SoundMarks size n m
     → Replays most n m moves m′ → length moves + members m′ ≤ members m
 replay-shrinks = replays-shrinks
+
+-- a log leads to marks without a legal move by one number of its moves, and is long enough to hold them
+pub one-number : (most n size : ℕ) (log m : List ℕ) (j k : ℕ) (m′ : List ℕ) → NoneLegal most n m′
+    → Replays most n m (logged size log j) m′ → Replays most n m (logged size log k) m′ → j ≡ k
+one-number = replays-one-number
+
+pub log-holds : (most n size : ℕ) (log m : List ℕ) (k : ℕ) (m′ : List ℕ) → Replays most n m (logged size log k) m′ → size * k ≤ length log
+log-holds = replays-held
 
 -- ---- the limits
 

@@ -160,3 +160,16 @@ logged-more size m log cells len room =
     (move-whole size new m (omega arith)
     ∙ ap (take size) (ap (drop j) (append-assoc (take j log) cells after) ∙ drop-at (take j log) (cells ++ after) j front)
     ∙ take-at cells after size len)
+
+-- what is logged after the first k moves starts with move k
+pub logged-later : (size : ℕ) (log : List ℕ) (k d : ℕ)
+    → (later : List (List ℕ)) × (logged size log (k + suc d) ≡ logged size log k ++ (moveAt size log k ∷ later))
+unfolding logged
+logged-later size log k zero = let e : k + 1 ≡ suc k = omega arith in ([], rw e)
+logged-later size log k (suc d) =
+    let e : k + suc (suc d) ≡ suc (k + suc d) = omega arith in
+    let last : List (List ℕ) = moveAt size log (k + suc d) ∷ [] in
+    let t = logged-later size log k d in (
+      t .0 ++ last,
+      rw (e, t .1) (append-assoc (logged size log k) (moveAt size log k ∷ t .0) last),
+    )

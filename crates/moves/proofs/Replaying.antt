@@ -1,16 +1,20 @@
--- Logged moves carried out in order: the marks stay sound, the signature stays, and every move takes at least one member.
+-- Logged moves carried out in order: the marks stay sound, the signature stays, and every move takes at least one member. A log leads to
+-- marks without a legal move by one number of its moves.
 use mathlib.Core.List.{List, [], _++_, _∷_}
-use mathlib.Core.Path.{_∙_, ap, refl, subst, sym}
-use Prim.Native.Nat.{_+_, _^_, _≤_, ℕ}
+use mathlib.Core.Path.{_∙_, _≡_, ap, refl, subst, sym}
+use Prim.Native.Nat.{_*_, _+_, _-_, _<_, _^_, _≤_, suc, zero, ℕ}
+use native.Mathlib.Decide.{decLt}
 use native.Mathlib.Omega.{arith}
 use lib.ListN.{length}
 use Rattle.circuit.specs.OddSet.{members}
 use Rattle.circuit.specs.Sound.{SoundMarks}
 use Rattle.phase.specs.Signature.{SameSignature}
 use Rattle.moves.proofs.Keep.{keeps, sound-kept}
+use Rattle.moves.proofs.Logs.{cells-unique, logged-later, move-short}
 use Rattle.moves.proofs.Shrink.{shrinks}
 use Rattle.moves.specs.CarryOut.{carryOut}
-use Rattle.moves.specs.Log.{LegalCells}
+use Rattle.moves.specs.Log.{LegalCells, asCells, logged, moveAt}
+use Rattle.moves.specs.Move.{NoneLegal}
 use Rattle.moves.specs.Replay.{Replays}
 
 pub signature-same : (n : ℕ) (w : List ℕ) → SameSignature n w w
@@ -70,3 +74,63 @@ module _ (size n most : ℕ) (room : 2 ^ n ≤ size) where
         replays-shrinks (carryOut m (f .z) (f .Y)) moves m′ (sound-kept size n most room m sound (f .z) (f .Y) (f .legal)) (r .1),
         shrinks size n most room m sound (f .z) (f .Y) (f .legal),
       )
+
+-- ---- where logged moves lead
+
+module _ (most n : ℕ) where
+  -- from the same marks the same moves leave the same marks
+  pub replays-one-end : (m : List ℕ) (moves : List (List ℕ)) (a b : List ℕ) → Replays most n m moves a → Replays most n m moves b → a ≡ b
+  unfolding Replays
+  replays-one-end m [] a b r s = sym r ∙ s
+  replays-one-end m (cells ∷ moves) a b r s =
+      let f : LegalCells most n m cells = r .0 in
+      let g : LegalCells most n m cells = s .0 in
+      let same = cells-unique most (f .z) (g .z) (f .Y) (g .Y) (sym (f .is) ∙ g .is) in
+      replays-one-end (carryOut m (f .z) (f .Y)) moves a b (r .1) (rw (same .0, same .1) (s .1))
+
+  -- where the first moves lead, the next one is legal
+  pub replays-next : (m : List ℕ) (moves : List (List ℕ)) (cells : List ℕ) (later : List (List ℕ)) (b : List ℕ)
+      → Replays most n m (moves ++ (cells ∷ later)) b → (a : List ℕ) × Replays most n m moves a × LegalCells most n a cells
+  unfolding Replays
+  replays-next m [] cells later b r = (m, refl, r .0)
+  replays-next m (f ∷ moves) cells later b r =
+      let t = replays-next (carryOut m (r .0 .z) (r .0 .Y)) moves cells later b (r .1) in
+      (t .0, (r .0, t .1), t .2)
+
+  module _ (size : ℕ) (log m : List ℕ) where
+    -- a log that leads to marks without a legal move goes on no further
+    ends-there : (k d : ℕ) (a b : List ℕ) → NoneLegal most n a → Replays most n m (logged size log k) a
+        → Replays most n m (logged size log (k + suc d)) b → ⊥
+    ends-there k d a b none r s =
+        let later = logged-later size log k d in
+        let t = replays-next m (logged size log k) (moveAt size log k) (later .0) b (rw (later .1) at s) in
+        let f : LegalCells most n (t .0) (moveAt size log k) = t .2 in
+        none (f .z) (f .Y) (rw (replays-one-end m (logged size log k) (t .0) a (t .1) r) at (f .legal))
+
+    -- so it leads there by one number of its moves
+    pub replays-one-number : (j k : ℕ) (a : List ℕ) → NoneLegal most n a → Replays most n m (logged size log j) a
+        → Replays most n m (logged size log k) a → j ≡ k
+    replays-one-number j k a none r s = go (decLt j k) (decLt k j)
+      where
+        later : (i l : ℕ) → i < l → Replays most n m (logged size log i) a → Replays most n m (logged size log l) a → ⊥
+        later i l h p q = let e : l ≡ i + suc (l - suc i) = omega arith in ends-there i (l - suc i) a a none p (rw e at q)
+
+        go : Dec (j < k) → Dec (k < j) → j ≡ k
+        go (yes h) d = absurd (later j k h r s)
+        go (no g) (yes h) = absurd (later k j h s r)
+        go (no g) (no h) = omega arith
+
+    -- and is long enough to hold them: a move that it has not whole is not legal
+    pub replays-held : (k : ℕ) (a : List ℕ) → Replays most n m (logged size log k) a → size * k ≤ length log
+    unfolding logged asCells
+    replays-held zero a r = omega arith
+    replays-held (suc k) a r = go (decLt (length log) (size * k + size))
+      where
+        legal : (a : List ℕ) × Replays most n m (logged size log k) a × LegalCells most n a (moveAt size log k)
+        legal = replays-next m (logged size log k) (moveAt size log k) [] a r
+
+        go : Dec (length log < size * k + size) → size * suc k ≤ length log
+        go (yes l) =
+            let f : LegalCells most n (legal .0) (moveAt size log k) = legal .2 in
+            absurd (omega (arith, ap length (sym (move-short size log k l) ∙ f .is)))
+        go (no g) = omega arith

@@ -18,9 +18,9 @@ use Rattle.gf2.proofs.BitCounts.{bits-total}
 use Rattle.gf2.specs.Bit.{bit}
 use Rattle.gf2.specs.Sum.{sum}
 use Rattle.gf2.specs.Table.{addAt}
-use Rattle.synth.proofs.Lists.{formed-append, kinds-append}
-use Rattle.synth.proofs.OneParity.{formed-parity, length-parity, parity-away, parity-here, read-parity}
-use Rattle.synth.specs.Spelling.{kindsAt, spelling}
+use Rattle.synth.proofs.Lists.{formed-append, kinds-append, together-first, together-then}
+use Rattle.synth.proofs.OneParity.{formed-parity, length-parity, parity-away, parity-here, parity-together, read-parity}
+use Rattle.synth.specs.Spelling.{Together, kindsAt, spelling}
 use Rattle.synth.specs.Writing.{writeParity, writePhases}
 
 -- what has been read after the parities below k: the weights below k, 0 elsewhere, and all else as at the start
@@ -166,6 +166,31 @@ module _ (N n : ℕ) (fit : n ≤ N) (w : List ℕ) (sound : SoundWeights (2 ^ N
       go : Dec (s < 2 ^ n) → kinds s (2 ^ n) ≡ spelling (weight w s)
       go (yes l) = kinds-done (2 ^ n) s l (le-refl (2 ^ n))
       go (no g) = kinds-none (2 ^ n) s (omega arith) (le-refl (2 ^ n)) ∙ ap spelling (sym (sound .high s (omega arith)))
+
+  -- by gates that stand together
+  together-below : (k p : ℕ) → p < k → k ≤ 2 ^ n → weight w p ≢ 0 → Together p (weight w p) (writePhases N n w k) (start N n)
+  unfolding after writePhases
+  together-below zero p h l some = absurd (omega arith)
+  together-below (suc k) p h l some = go (ℕ-discrete k p) (λ g. together-below k p g (omega arith) some)
+    where
+      first : after k .rows ≡ firstRows N n
+      first = rows-first (passed k (omega arith))
+
+      one : (v : ℕ) → weight w k ≡ v → v ≢ 0 → Together k v (writeParity N n k v) (after k)
+      one zero e ne = absurd (ne refl)
+      one (suc v) e ne = parity-together N n k fit (λ z. ne (sym e ∙ ap (weight w) z ∙ sound .none)) l (after k) first v
+
+      go : Dec (k ≡ p) → (p < k → Together p (weight w p) (writePhases N n w k) (start N n))
+          → Together p (weight w p) (writePhases N n w k ++ writeParity N n k (weight w k)) (start N n)
+      go (yes e) f = rw (← e) (together-then (writePhases N n w k) (start N n) (one (weight w k) refl (rw (← e) at some)))
+      go (no e) f = together-first (f (omega arith)) (writeParity N n k (weight w k))
+
+  pub phases-together : (p : ℕ) → weight w p ≢ 0 → Together p (weight w p) (writePhases N n w (2 ^ n)) (start N n)
+  phases-together p some = go (decLt p (2 ^ n))
+    where
+      go : Dec (p < 2 ^ n) → Together p (weight w p) (writePhases N n w (2 ^ n)) (start N n)
+      go (yes l) = together-below (2 ^ n) p l (le-refl (2 ^ n)) some
+      go (no g) = absurd (some (sound .high p (omega arith)))
 
   -- ---- how many
 

@@ -1,14 +1,15 @@
 -- The laws of writing on one page, for lists, replies and buffers as document 01 words them. The proofs are in the modules named.
 use mathlib.Core.List.{List}
 use mathlib.Core.Logic.{_↔_, _≢_}
-use mathlib.Core.Path.{_≡_, ap, refl, _∙_}
+use mathlib.Core.Path.{_≡_, ap, refl, sym, _∙_}
 use Prim.Native.Nat.{_*_, _<_, _^_, suc, zero, ℕ, _≤_}
 use native.Mathlib.Omega.{arith}
 use lib.ListN.{length, take}
+use Rattle.circuit.proofs.Judging.{call-number, call-told, refuse-done, refused-not-done}
 use Rattle.circuit.proofs.ReadRuns.{read-runs}
 use Rattle.circuit.proofs.Sound.{start-sound}
-use Rattle.circuit.specs.Entry.{readBytes}
-use Rattle.circuit.specs.Faults.{AllWellFormed}
+use Rattle.circuit.specs.Entry.{numberOf, placeOf, readBytes}
+use Rattle.circuit.specs.Faults.{AllWellFormed, callReply}
 use Rattle.circuit.specs.Gate.{Gate, kindOf}
 use Rattle.circuit.specs.Lent.{frontGates, readingLent}
 use Rattle.circuit.specs.Limits.{gateBytes, maxWires, maxWrittenGates, rowCells, writtenGates}
@@ -21,10 +22,11 @@ use Rattle.synth.proofs.KindCounts.{kinds-total}
 use Rattle.synth.proofs.RowRule.{rows-sound}
 use Rattle.synth.proofs.WriteBack.{list-written}
 use Rattle.synth.proofs.WriteWays.{fault-ready, longest, ready-faultless}
-use Rattle.synth.specs.Entry.{WriteList, Wrote, WroteBytes, writeReply}
+use Rattle.synth.specs.Entry.{GatesLeft, WriteList, Wrote, WroteBytes}
 use Rattle.synth.specs.Faults.{Writable, rowsFault, writeFault}
 use Rattle.synth.specs.Spelling.{gatesOfKind, kindsAt, occurs}
 use Rattle.synth.specs.Writing.{writeList}
+use Rattle.circuit.specs.declared.Reply.the-variants as reply
 use Rattle.circuit.specs.declared.gates.Kind.the-variants.{Phase}
 use Rattle.synth.specs.declared.Written.{Written}
 use Rattle.synth.specs.declared.Written.the-variants.{Done, Refused}
@@ -57,25 +59,25 @@ module _ (n : ℕ) (w rows g g′ : List ℕ) where
       → (count : ℕ) × (r ≡ Done count) × WroteBytes n w rows g g′ count
   writable-is-written (Done count) x a = (count, refl, x .gates-left)
   writable-is-written (Refused number place) x a =
-      let e : Refused number place ≡ Done 0 = x .reply ∙ ap (λ (f : ℕ). writeReply f 0) (ready-faultless n w rows (length g) a) in
-      absurd (let z : _≡_ {A = ℕ} 0 1 = cc in omega arith)
+      absurd (refused-not-done number place (x .reply ∙ ap callReply (ready-faultless n w rows (length g) a)))
 
   -- nothing faulty is accepted
   pub written-is-writable : (count : ℕ) → WriteList n w rows g g′ (Done count) → Writable n w rows (length g)
-  written-is-writable count x = fault-ready n w rows (length g) (clear (writeFault n w rows (length g)) (x .reply))
-    where
-      clear : (f : ℕ) → Done count ≡ writeReply f count → f ≡ 0
-      clear zero e = refl
-      clear (suc f) e = absurd (let z : _≡_ {A = ℕ} 0 1 = cc in omega arith)
+  written-is-writable count x =
+      fault-ready n w rows (length g) (refuse-done (writeFault n w rows (length g)) 0 reply.Done (sym (x .reply)) .0)
 
   -- a refusal names the first fault, at place 0, and leaves the gates as they were
   pub refusal-is-first : (number place : ℕ) → WriteList n w rows g g′ (Refused number place)
       → (number ≡ writeFault n w rows (length g)) × (number ≢ 0) × (place ≡ 0) × (g′ ≡ g)
-  refusal-is-first number place x = go (writeFault n w rows (length g)) (x .reply)
+  refusal-is-first number place x =
+      let f = writeFault n w rows (length g) in
+      let c = call-told f in
+      let some = call-number f (sym (x .reply)) in
+      (ap numberOf (x .reply) ∙ c .0, some, ap placeOf (x .reply) ∙ c .1, left number some (x .gates-left))
     where
-      go : (f : ℕ) → Refused number place ≡ writeReply f 0 → (number ≡ f) × (number ≢ 0) × (place ≡ 0) × (g′ ≡ g)
-      go zero e = absurd (let z : _≡_ {A = ℕ} 0 1 = cc in omega arith)
-      go (suc f) e = let s : number ≡ suc f = cc in (s, omega arith, cc, x .gates-left)
+      left : (number : ℕ) → number ≢ 0 → GatesLeft number 0 n w rows g g′ → g′ ≡ g
+      left zero h e = absurd (h refl)
+      left (suc number) h e = e
 
 -- ---- what the promise of `write` means after Done
 

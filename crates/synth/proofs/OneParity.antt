@@ -26,8 +26,8 @@ use Rattle.gf2.specs.Table.{addAt}
 use Rattle.synth.proofs.Cnots.{formed-cnots, kinds-cnots, length-cnots, read-cnots}
 use Rattle.synth.proofs.Lists.{formed-append, kinds-append}
 use Rattle.synth.proofs.Spelled.{formed-spell, kinds-away, kinds-here, length-spell, read-spell}
-use Rattle.synth.specs.Spelling.{kindsAt, spelling}
-use Rattle.synth.specs.Writing.{around, cnots, others, spell, writeParity}
+use Rattle.synth.specs.Spelling.{Together, kindsAt, spell, spelling}
+use Rattle.synth.specs.Writing.{around, cnots, others, writeParity}
 
 -- wire t comes to hold p by CNOTs from the wires of q
 record Brought (n q t p : ℕ) (r : Reading) : Type 0 where
@@ -135,6 +135,19 @@ module _ (N n p : ℕ) (fit : n ≤ N) (some : p ≢ 0) (less : p < 2 ^ n) where
     unfolding writeParity kindsAt spelling
     parity-here zero h = refl
     parity-here (suc v) h = around-here brought (suc v) h
+
+    pub parity-together : (v : ℕ) → Together p (suc v) (writeParity N n p (suc v)) r
+    unfolding writeParity around
+    parity-together v =
+        let q : ℕ = others N p in
+        let t : ℕ = lowest N p in
+        record {
+          wire = t;
+          before = cnots n q t;
+          after = cnots n q t;
+          is = refl;
+          holds = ap (λ (s : Reading). row s t) (in-between brought) ∙ at brought;
+        }
 
     pub parity-away : (v : ℕ) → v < 8 → (s : ℕ) → p ≢ s → kindsAt s (writeParity N n p v) r ≡ []
     unfolding writeParity kindsAt

@@ -19,9 +19,9 @@ use Rattle.gf2.specs.Parity.{lowest}
 use Rattle.synth.proofs.AllParities.{phases-grow}
 use Rattle.synth.proofs.BitTests.{bit-told}
 use Rattle.synth.proofs.Stores.{room-first, room-then, stored-none, stored-then}
-use Rattle.synth.specs.Spelling.{spelling}
+use Rattle.synth.specs.Spelling.{spell, spelling}
 use Rattle.synth.specs.Storing.{ParityReady, PhasesReady, Room, Stored, kindsOf}
-use Rattle.synth.specs.Writing.{around, bitOf, cnotIf, cnots, others, spell, writeParity, writePhases}
+use Rattle.synth.specs.Writing.{around, bitOf, cnotIf, cnots, others, writeParity, writePhases}
 use Rattle.synth.specs.declared.spelling.Kinds.{Kinds}
 use Rattle.synth.specs.declared.spelling.Kinds.the-variants.{Nothing, One, Two}
 

@@ -20,8 +20,7 @@ use Rattle.gf2.proofs.Every.{every-at}
 use Rattle.gf2.specs.Every.{every}
 use Rattle.gf2.specs.Sum.{delta}
 use Rattle.gf2.specs.Table.{addAt}
-use Rattle.synth.specs.Spelling.{kindsAt, occurs, spelling}
-use Rattle.synth.specs.Writing.{spell}
+use Rattle.synth.specs.Spelling.{kindsAt, occurs, spell, spelling}
 use Rattle.circuit.specs.declared.gates.Kind.{Kind}
 use Rattle.circuit.specs.declared.gates.Kind.the-variants.{Cnot, Phase, Unknown}
 

@@ -1,6 +1,7 @@
 -- What is written for sound weights and rows: it reads back exactly, spells each weight, and has at most n * 2^n + n * n gates.
 -- Over n and N.
 use mathlib.Core.List.{List, append-nil}
+use mathlib.Core.Logic.{_≢_}
 use mathlib.Core.Path.{ap, ap₂, refl, sym, _∙_, _≡_}
 use Prim.Native.Nat.{_+_, _^_, ℕ, _≤_}
 use native.Mathlib.Nat.{le-refl}
@@ -19,13 +20,13 @@ use Rattle.circuit.specs.Sound.{SoundRows, SoundWeights, weight}
 use Rattle.gf2.proofs.Pairing.{sum-stop}
 use Rattle.gf2.proofs.Sum.{sum-add, sum-ext}
 use Rattle.gf2.specs.Sum.{sum}
-use Rattle.synth.proofs.AllParities.{formed-phases, kinds-phases, length-phases, phases-read-back}
+use Rattle.synth.proofs.AllParities.{formed-phases, kinds-phases, length-phases, phases-read-back, phases-together}
 use Rattle.synth.proofs.KindCounts.{kinds-total, t-by-kind}
-use Rattle.synth.proofs.Lists.{formed-append, kinds-append}
+use Rattle.synth.proofs.Lists.{formed-append, kinds-append, together-first}
 use Rattle.synth.proofs.RowsWritten.{Brings, kinds-rows, rows-written}
 use Rattle.synth.proofs.Spelled.{occurs-odd}
 use Rattle.synth.specs.Entry.{Wrote}
-use Rattle.synth.specs.Spelling.{gatesOfKind, kindsAt, occurs, spelledGates, spelling}
+use Rattle.synth.specs.Spelling.{Together, gatesOfKind, kindsAt, occurs, spelledGates, spelling}
 use Rattle.synth.specs.Writing.{writeList, writePhases, writeRows}
 use Rattle.circuit.specs.declared.gates.Kind.the-variants.{Phase}
 
@@ -58,6 +59,10 @@ module _ (N n : ℕ) (fit : n ≤ N) (w rows : List ℕ) (sw : SoundWeights (2 ^
       ∙ rw (kinds-phases N n fit w sw p, kinds-rows p n n 0 rows (readFrom (writePhases N n w (2 ^ n)) (start N n)))
       (append-nil (spelling (weight w p)))
 
+  together : (p : ℕ) → weight w p ≢ 0 → Together p (weight w p) gs (start N n)
+  unfolding gs
+  together p some = together-first (phases-together N n fit w sw p some) (writeRows n rows)
+
   -- no weight from 2 ^ n on
   kinds : (kind v : ℕ) → kindOf kind ≡ Phase v → gatesOfKind kind gs ≡ spelledGates kind w
   unfolding spelledGates occurs spelling
@@ -81,4 +86,13 @@ module _ (N n : ℕ) (fit : n ≤ N) (w rows : List ℕ) (sw : SoundWeights (2 ^
 
   pub list-written : Wrote N n (readingLent w rows) (writeList N n w rows)
   unfolding gs
-  list-written = record { formed = formed; reads = reads; short = short; spelled = spelled; kinds = kinds; t-gates = t-gates }
+  list-written =
+      record {
+        formed = formed;
+        reads = reads;
+        short = short;
+        spelled = spelled;
+        together = together;
+        kinds = kinds;
+        t-gates = t-gates;
+      }

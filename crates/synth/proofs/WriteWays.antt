@@ -8,7 +8,7 @@ use native.Mathlib.Omega.{arith}
 use lib.ListN.{length, take}
 use lib.Pow.{pow-mono}
 use Rattle.circuit.proofs.Judging.{or-first, or-pass, or-second, or-well, short-pass, short-well}
-use Rattle.circuit.proofs.TableRule.{call-passes, weights-passes}
+use Rattle.circuit.proofs.TableRule.{call-done, call-passes, call-refusal, weights-passes}
 use Rattle.circuit.specs.Faults.{Accepted, orElse, shortFault}
 use Rattle.circuit.specs.Gate.{Gate, bytesOf, gatesOf}
 use Rattle.circuit.specs.Lent.{frontGates, readingLent}
@@ -18,7 +18,7 @@ use Rattle.circuit.proofs.Bytes.{gates-of-bytes, length-bytes}
 use Rattle.synth.proofs.RowRule.{rows-sound}
 use Rattle.synth.proofs.Stores.{room-first, room-then, stored-front, stored-kept, stored-then}
 use Rattle.synth.proofs.WriteBack.{list-written}
-use Rattle.synth.specs.Entry.{WriteList, Wrote, WroteBytes, writeReply}
+use Rattle.synth.specs.Entry.{GatesLeft, WriteList, Wrote, WroteBytes}
 use Rattle.synth.specs.Faults.{Writable, rowsFault, writeFault}
 use Rattle.synth.specs.Storing.{PhasesReady, Room, RowsReady, Stored}
 use Rattle.synth.specs.Writing.{writePhases, writeRows}
@@ -77,20 +77,20 @@ module _ (n : ℕ) (w rows : List ℕ) (gates : ℕ) where
 
 -- ---- the ways out
 
-refusal : (f count : ℕ) → f ≢ 0 → Refused f 0 ≡ writeReply f count
-refusal zero count h = absurd (h refl)
-refusal (suc f) count h = refl
-
 module _ (n : ℕ) (w rows g : List ℕ) (f : ℕ) (judged : f ≡ writeFault n w rows (length g)) where
   pub write-refused : f ≢ 0 → WriteList n w rows g g (Refused f 0)
-  write-refused h = record { reply = refusal f 0 h ∙ ap (λ (x : ℕ). writeReply x 0) judged; gates-left = refl }
+  write-refused h = record { reply = call-refusal f (writeFault n w rows (length g)) judged h; gates-left = left f h }
+    where
+      left : (f : ℕ) → f ≢ 0 → GatesLeft f 0 n w rows g g
+      left zero h = absurd (h refl)
+      left (suc f) h = refl
 
   module _ (clear : f ≡ 0) where
     pub may-write : Writable n w rows (length g)
     may-write = fault-ready n w rows (length g) (sym judged ∙ clear)
 
     pub write-done : (g′ : List ℕ) (count : ℕ) → WroteBytes n w rows g g′ count → WriteList n w rows g g′ (Done count)
-    write-done g′ count d = record { reply = ap (λ (x : ℕ). writeReply x count) (sym clear ∙ judged); gates-left = d }
+    write-done g′ count d = record { reply = call-done f (writeFault n w rows (length g)) judged clear; gates-left = d }
 
 -- ---- the gates stored
 

@@ -1,41 +1,37 @@
 -- The entry `write`: its reply and what it leaves in the lent gates, for sound and faulty arguments alike. Which CNOTs are used, and the
 -- order of parities, are free (document 01, "The new weights"), and so is the number of gates: it is named with what holds of it.
 use mathlib.Core.List.{List}
+use mathlib.Core.Logic.{_≢_}
 use mathlib.Core.Path.{_≡_}
 use Prim.Native.Nat.{_*_, _≤_, suc, zero, ℕ}
 use lib.ListN.{length, take}
-use Rattle.circuit.specs.Faults.{Accepted, AllWellFormed}
+use Rattle.circuit.specs.Entry.{numberOf}
+use Rattle.circuit.specs.Faults.{Accepted, AllWellFormed, callReply}
 use Rattle.circuit.specs.Gate.{Gate, kindOf, tGates}
 use Rattle.circuit.specs.Lent.{KeptFrom, frontGates, readingLent}
 use Rattle.circuit.specs.Limits.{gateBytes, maxWires, writtenGates}
 use Rattle.circuit.specs.OddSet.{members, oddSet}
 use Rattle.circuit.specs.Read.{Reading, read, start}
 use Rattle.circuit.specs.Sound.{weight}
+use Rattle.circuit.specs.declared.Reply.{Reply}
+use Rattle.circuit.specs.declared.Reply.the-variants as reply
 use Rattle.circuit.specs.declared.gates.Kind.the-variants.{Phase}
 use Rattle.synth.specs.Faults.{writeFault}
-use Rattle.synth.specs.Spelling.{gatesOfKind, kindsAt, spelledGates, spelling}
+use Rattle.synth.specs.Spelling.{Together, gatesOfKind, kindsAt, spelledGates, spelling}
 use Rattle.synth.specs.declared.Written.{Written}
 use Rattle.synth.specs.declared.Written.the-variants.{Done, Refused}
 
 -- ---- the reply
 
--- document 01's number of a reply, 0 for none, and its place; and the number of gates written, 0 where none are
-abbrev pub writtenNumber : Written → ℕ
-writtenNumber (Done count) = 0
-writtenNumber (Refused number place) = number
+-- each case in document 01's number and place: done, or the fault
+abbrev pub told : Written → Reply
+told (Done count) = reply.Done
+told (Refused number place) = reply.Refused number place
 
-abbrev pub writtenPlace : Written → ℕ
-writtenPlace (Done count) = 0
-writtenPlace (Refused number place) = place
-
-abbrev pub writtenCount : Written → ℕ
-writtenCount (Done count) = count
-writtenCount (Refused number place) = 0
-
--- a fault is refused, at place 0; else that many gates are written
-abbrev pub writeReply : ℕ → ℕ → Written
-writeReply zero count = Done count
-writeReply (suc fault) count = Refused (suc fault) 0
+-- the number of gates written, 0 where none are
+abbrev pub countOf : Written → ℕ
+countOf (Done count) = count
+countOf (Refused number place) = 0
 
 -- ---- the list
 
@@ -49,6 +45,8 @@ pub record Wrote (N n : ℕ) (r : Reading) (gs : List Gate) : Type 0 where
   pub short : length gs ≤ writtenGates n
   -- the gates that add their phase at p are, in order, those that spell p's weight
   pub spelled : (p : ℕ) → kindsAt p gs (start N n) ≡ spelling (weight (r .weights) p)
+  -- and stand next to each other, on one wire that holds p
+  pub together : (p : ℕ) → weight (r .weights) p ≢ 0 → Together p (weight (r .weights) p) gs (start N n)
   -- so there are as many gates of each kind of phase gate as the spellings of all weights have
   pub kinds : (kind v : ℕ) → kindOf kind ≡ Phase v → gatesOfKind kind gs ≡ spelledGates kind (r .weights)
   -- and as many T and T dagger gates as the odd set has members
@@ -65,11 +63,12 @@ pub record WroteBytes (n : ℕ) (weights rows gates gates′ : List ℕ) (count 
   -- every byte after the last gate is as it was
   pub kept : KeptFrom (gateBytes * count) gates gates′
 
-abbrev pub GatesLeft : Written → ℕ → List ℕ → List ℕ → List ℕ → List ℕ → Type 0
-GatesLeft (Done count) n weights rows gates gates′ = WroteBytes n weights rows gates gates′ count
-GatesLeft (Refused number place) n weights rows gates gates′ = gates′ ≡ gates
+-- after a reply of that number: that many gates written; or as they were
+abbrev pub GatesLeft : (number count : ℕ) → ℕ → List ℕ → List ℕ → List ℕ → List ℕ → Type 0
+GatesLeft zero count n weights rows gates gates′ = WroteBytes n weights rows gates gates′ count
+GatesLeft (suc fault) count n weights rows gates gates′ = gates′ ≡ gates
 
 -- `write`, called with these weights, rows and gates, replies r and leaves gates′
 pub record WriteList (n : ℕ) (weights rows gates gates′ : List ℕ) (r : Written) : Type 0 where
-  pub reply : r ≡ writeReply (writeFault n weights rows (length gates)) (writtenCount r)
-  pub gates-left : GatesLeft r n weights rows gates gates′
+  pub reply : told r ≡ callReply (writeFault n weights rows (length gates))
+  pub gates-left : GatesLeft (numberOf (told r)) (countOf r) n weights rows gates gates′

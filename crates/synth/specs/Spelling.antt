@@ -1,13 +1,14 @@
 -- Document 01, "The new weights": "Writing spells weight 1 to 7 as T; S; S T; Z; Z T; S dagger; T dagger." And what it means that a list
 -- spells its weights so, whatever its CNOTs and its order of parities are.
 use mathlib.Core.Bool.{Bool, false, true}
-use mathlib.Core.List.{_++_, List, [], _∷_}
+use mathlib.Core.List.{_++_, List, [], _∷_, map}
+use mathlib.Core.Path.{_≡_}
 use Prim.Native.Nat.{_+_, ℕ}
 use lib.Dec.{eqb}
 use lib.ListN.{getD, length}
 use Rattle.gf2.specs.Sum.{delta, sum}
 use Rattle.circuit.specs.Gate.{Gate, S, S-dagger, T, T-dagger, Z, gate, kindOf}
-use Rattle.circuit.specs.Read.{Reading, readGate, row}
+use Rattle.circuit.specs.Read.{Reading, readFrom, readGate, row}
 use Rattle.circuit.specs.Sound.{weight}
 use Rattle.circuit.specs.declared.gates.Kind.{Kind}
 use Rattle.circuit.specs.declared.gates.Kind.the-variants.{Cnot, Phase, Unknown}
@@ -18,6 +19,10 @@ use Rattle.circuit.specs.declared.gates.Kind.the-variants.{Cnot, Phase, Unknown
 unfoldable pub spelling : ℕ → List ℕ
 spelling v =
     getD ([] ∷ (T ∷ []) ∷ (S ∷ []) ∷ (S ∷ T ∷ []) ∷ (Z ∷ []) ∷ (Z ∷ T ∷ []) ∷ (S-dagger ∷ []) ∷ (T-dagger ∷ []) ∷ []) v []
+
+-- the gates that spell weight v, on wire t
+unfoldable pub spell : ℕ → ℕ → List Gate
+spell v t = map (λ kind. gate kind t 0) (spelling v)
 
 -- how many of these kinds are that kind
 unfoldable pub occurs : ℕ → List ℕ → ℕ
@@ -46,3 +51,11 @@ kindHere Unknown holds kind = []
 unfoldable pub kindsAt : ℕ → List Gate → Reading → List ℕ
 kindsAt p [] r = []
 kindsAt p (gate kind a b ∷ gs) r = kindHere (kindOf kind) (eqb (row r a) p) kind ++ kindsAt p gs (readGate (gate kind a b) r)
+
+-- somewhere in a list the gates that spell v stand next to each other, on one wire, which holds p there; r is the reading before the list
+pub record Together (p v : ℕ) (gs : List Gate) (r : Reading) : Type 0 where
+  pub wire : ℕ
+  pub before : List Gate
+  pub after : List Gate
+  pub is : gs ≡ before ++ (spell v wire ++ after)
+  pub holds : row (readFrom before r) wire ≡ p

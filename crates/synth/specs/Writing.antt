@@ -10,7 +10,7 @@ use Rattle.gf2.specs.Parity.{lowest}
 use Rattle.circuit.specs.Gate.{CNOT, Gate, gate}
 use Rattle.circuit.specs.Read.{either}
 use Rattle.circuit.specs.Sound.{weight}
-use Rattle.synth.specs.Spelling.{spelling}
+use Rattle.synth.specs.Spelling.{spell}
 
 -- ---- the weights
 
@@ -27,10 +27,6 @@ cnotIf (suc c) i t = gate CNOT i t ∷ []
 unfoldable pub cnots : ℕ → ℕ → ℕ → List Gate
 cnots zero q t = []
 cnots (suc k) q t = cnots k q t ++ cnotIf (bit q k) k t
-
--- the gates that spell weight v, on wire t
-unfoldable pub spell : ℕ → ℕ → List Gate
-spell v t = map (λ kind. gate kind t 0) (spelling v)
 
 -- weight v spelled on wire t, while t holds its own parity and those of q
 unfoldable pub around : ℕ → ℕ → ℕ → ℕ → List Gate

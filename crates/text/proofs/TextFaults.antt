@@ -175,10 +175,10 @@ pub read-faulty : (t : List ℕ) (number place : ℕ) → linesFault (linesOf t)
 unfolding readText
 read-faulty t number place e = rw e
 
--- ---- a fault's number and place are small
+-- ---- a fault's number and place are small, and the number is not 0
 
 abbrev pub Small : ℕ → ℕ → Type 0
-Small number place = (number ≤ malformed) × (place ≤ maxGates + 1)
+Small number place = (1 ≤ number) × (number ≤ malformed) × (place ≤ maxGates + 1)
 
 same-fault : (f p number place : ℕ) → Refused f p ≡ Refused number place → Small f p → Small number place
 same-fault f p number place e h =

@@ -11,6 +11,7 @@ use lib.Seq.{take-append-seam}
 use borrow.Author.Tests.{eq-eqb, le-leb, lt-leb, ne-eqb}
 use Rattle.circuit.proofs.Bytes.{length-gates}
 use Rattle.circuit.proofs.Placing.{placed-kept}
+use Rattle.circuit.specs.Entry.{numberOf}
 use Rattle.circuit.specs.Faults.{callReply, lentOutput, listLength, malformed, shortFault, wireCount, wiresFault}
 use Rattle.circuit.specs.Gate.{Gate, gate, gatesOf}
 use Rattle.circuit.specs.Lent.{KeptFrom}
@@ -22,8 +23,9 @@ use Rattle.text.proofs.LineForms.{first-formed}
 use Rattle.text.proofs.ReadsWritten.{never, reads-written}
 use Rattle.text.proofs.TextFaults.{Small, count-refused, faults-small, gate-wrong, one-too-many, one-wrong, read-circuit}
 use Rattle.text.proofs.TextFaults.{read-faulty}
+use Rattle.text.proofs.TextWays.{replyOf, reply-is}
 use Rattle.text.proofs.WrittenReads.{circuit-pass, pair-hex, pair-low, wires-starts, written-reads}
-use Rattle.text.specs.Entry.{ReadText, gatesAfter, readInto, replyOf}
+use Rattle.text.specs.Entry.{ReadText, faultSaid, gatesAfter, gatesSaid, readInto, told, wiresSaid}
 use Rattle.text.specs.Hex.{hex2, hex4}
 use Rattle.text.specs.Limits.{countsLineBytes, gateDigits, gateLineBytes, refusedLineBytes, replyBytes, textBytes}
 use Rattle.text.specs.Limits.{byteValues, wiresDigits, wiresLineBytes}
@@ -85,9 +87,9 @@ module _ (lent : ℕ) (t : List ℕ) where
   pub with-room : maxListBytes ≤ lent → readInto lent t ≡ readText t
   with-room h = simp (le-leb maxListBytes lent h)
 
--- every fault's number is at most 9 and its place at most one more than the most gates, so two and four digits say them
+-- every fault's number is 1 to 9 and its place at most one more than the most gates, so two and four digits say them
 pub fault-small : (lent : ℕ) (t : List ℕ) (number place : ℕ) → readInto lent t ≡ faulty number place
-    → (number ≤ malformed) × (place ≤ maxGates + 1)
+    → (1 ≤ number) × (number ≤ malformed) × (place ≤ maxGates + 1)
 fault-small lent t number place e = go (decLe maxListBytes lent)
   where
     same : (f p : ℕ) → faulty f p ≡ faulty number place → Small f p → Small number place
@@ -117,16 +119,33 @@ pub call-decided : (t gates gates′ : List ℕ) (r : TextReply) → ReadText (t
 call-decided t gates gates′ r c =
     let same : readInto (length gates) (take textBytes t) ≡ readInto (length gates) t =
     ap (unlessRefused (callReply (shortFault (length gates) maxListBytes))) (text-decided t) in
-    record { reply = c .reply ∙ ap replyOf same; gates-left = c .gates-left ∙ ap (λ (x : Text). gatesAfter x gates) same }
+    record {
+      reply = c .reply ∙ ap faultSaid same;
+      wires = c .wires ∙ ap wiresSaid same;
+      count = c .count ∙ ap gatesSaid same;
+      gates-left = c .gates-left ∙ ap (λ (x : Text). gatesAfter x gates) same;
+    }
 
 -- ---- what the promise of `read_text` means
+
+-- the reply is the wire count and the number of gates of what is read, or its fault
+pub reply-as-read : (t gates gates′ : List ℕ) (r : TextReply) → ReadText t gates gates′ r → r ≡ replyOf (readInto (length gates) t)
+reply-as-read t gates gates′ r p = reply-is p
+
+-- number 0 says done
+pub text-number : (t gates gates′ : List ℕ) (r : TextReply) → ReadText t gates gates′ r → numberOf (told r) ≡ 0 → told r ≡ Judged
+text-number t gates gates′ r p e = p .reply ∙ go (readInto (length gates) t) refl (sym (ap numberOf (p .reply)) ∙ e)
+  where
+    go : (x : Text) → readInto (length gates) t ≡ x → numberOf (faultSaid x) ≡ 0 → faultSaid x ≡ Judged
+    go (circuit n bytes) d z = refl
+    go (faulty number place) d z = absurd (omega (arith, fault-small (length gates) t number place d .0))
 
 refused-read : (number place n m : ℕ) → Refused number place ≡ Done n m → ⊥
 refused-read number place n m e = let z : _≡_ {A = ℕ} 0 1 = cc in omega arith
 
 -- after a refusal the lent gates are as they were
 pub refusal-leaves : (t gates gates′ : List ℕ) (number place : ℕ) → ReadText t gates gates′ (Refused number place) → gates′ ≡ gates
-refusal-leaves t gates gates′ number place c = go (readInto (length gates) t) (c .reply) (c .gates-left)
+refusal-leaves t gates gates′ number place c = go (readInto (length gates) t) (reply-is c) (c .gates-left)
   where
     go : (x : Text) → Refused number place ≡ replyOf x → gates′ ≡ gatesAfter x gates → gates′ ≡ gates
     go (circuit n bytes) e l = absurd (refused-read number place n (length bytes / gateBytes) e)
@@ -163,8 +182,8 @@ done-reads t gates gates′ n m c = go (decLe maxListBytes (length gates))
     go : Dec (maxListBytes ≤ length gates) → CircuitRead t gates gates′ n m
     go (yes h) =
         let r = with-room (length gates) t h in
-        of-text h (readText t) refl (c .reply ∙ ap replyOf r) (c .gates-left ∙ ap (λ (x : Text). gatesAfter x gates) r)
-    go (no h) = absurd (refused-read lentOutput 0 n m (sym (c .reply ∙ ap replyOf (without-room (length gates) t (omega arith)))))
+        of-text h (readText t) refl (reply-is c ∙ ap replyOf r) (c .gates-left ∙ ap (λ (x : Text). gatesAfter x gates) r)
+    go (no h) = absurd (refused-read lentOutput 0 n m (sym (reply-is c ∙ ap replyOf (without-room (length gates) t (omega arith)))))
 
 -- ---- the lines written
 

@@ -1,21 +1,22 @@
 -- One law for each way out of the entry `read_text`, by what its judge found: the reply, and the lent gates as it says.
 use mathlib.Core.List.{List}
-use mathlib.Core.Path.{_∙_, _≡_, ap, refl, sym}
+use mathlib.Core.Path.{_∙_, _≡_, ap, ap₂, refl, sym}
 use Prim.Native.Nat.{_+_, _/_, _<_, _≤_, suc, zero, ℕ}
 use native.Mathlib.Omega.{arith}
 use lib.ListN.{length}
-use Rattle.circuit.proofs.Judging.{refuse-done, short-pass}
+use Rattle.circuit.proofs.Judging.{refuse-done, refused-not-done, short-pass}
 use Rattle.circuit.specs.Faults.{callReply, refuse, shortFault}
 use Rattle.circuit.specs.Limits.{gateBytes, maxListBytes}
 use Rattle.circuit.specs.declared.Reply.{Reply}
 use Rattle.circuit.specs.declared.Reply.the-variants.{Done, Refused}
 use Rattle.text.proofs.Storing.{bytesFrom}
 use Rattle.text.proofs.TextFaults.{faultFrom, gates-done, one-formed-done, one-long, read-circuit}
-use Rattle.text.specs.Entry.{ReadText, readInto, readTextFault}
+use Rattle.text.specs.Entry.{ReadText, countOf, faultSaid, gatesSaid, readInto, readTextFault, told, wiresOf, wiresSaid}
 use Rattle.text.specs.Limits.{wiresLineBytes}
 use Rattle.text.specs.Lines.{byteAt, linesOf}
 use Rattle.text.specs.Placed.{Stores}
-use Rattle.text.specs.Text.{Text, faulty, linesFault, linesSay, readText, unlessRefused}
+use Rattle.text.specs.Text.{Text, circuit, faulty, linesFault, linesSay, readText, unlessRefused}
+use Rattle.text.specs.declared.TextReply.{TextReply}
 use Rattle.text.specs.declared.TextReply.the-variants.{Done as ReadDone, Refused as ReadRefused}
 
 -- a text refused for the fault of the call, else for its own, is refused for the first of them
@@ -33,7 +34,7 @@ module _ (t g : List ℕ) {found : Reply} (judged : found ≡ readTextFault (len
   text-refused {number} {place} e =
       let r : readInto (length g) t ≡ faulty number place =
       by-fault (length g) t ∙ ap (λ (v : Reply). unlessRefused v (linesSay (linesOf t))) (sym judged ∙ e) in
-      record { reply = rw r; gates-left = rw r }
+      record { reply = rw r; wires = rw r; count = rw r; gates-left = rw r }
 
   module _ (e : found ≡ Done) where
     passed : (shortFault (length g) maxListBytes ≡ 0) × (linesFault (linesOf t) ≡ Done)
@@ -50,4 +51,23 @@ module _ (t g : List ℕ) {found : Reply} (judged : found ≡ readTextFault (len
     text-read {n} {m} {g′} h s =
         let r = ap (λ (f : ℕ). unlessRefused (callReply f) (readText t)) (passed .0) ∙ read-circuit t (passed .1) in
         let k : m ≡ length (bytesFrom t wiresLineBytes) / gateBytes = omega (arith, s .counted) in
-        record { reply = rw (r, h, k); gates-left = rw r (s .stored) }
+        record { reply = rw r; wires = rw (r, h); count = rw (r, k); gates-left = rw r (s .stored) }
+
+-- ---- the reply whole
+
+-- the wire count and the number of gates, or the fault's number and place
+abbrev pub replyOf : Text → TextReply
+replyOf (circuit n bytes) = ReadDone n (length bytes / gateBytes)
+replyOf (faulty number place) = ReadRefused number place
+
+pub reply-is : {t g g′ : List ℕ} {r : TextReply} → ReadText t g g′ r → r ≡ replyOf (readInto (length g) t)
+reply-is {t} {g} {g′} {r} p = go r (readInto (length g) t) (p .reply) (p .wires) (p .count)
+  where
+    go : (r : TextReply) (x : Text) → told r ≡ faultSaid x → wiresOf r ≡ wiresSaid x → countOf r ≡ gatesSaid x → r ≡ replyOf x
+    go (ReadDone n m) (circuit k bytes) e a b = ap₂ ReadDone a b
+    go (ReadDone n m) (faulty f q) e a b = absurd (refused-not-done f q (sym e))
+    go (ReadRefused f q) (circuit k bytes) e a b = absurd (refused-not-done f q e)
+    go (ReadRefused f q) (faulty h p) e a b =
+        let s : f ≡ h = cc in
+        let u : q ≡ p = cc in
+        ap₂ ReadRefused s u

@@ -4,3 +4,4 @@ pub mod Making
 pub mod Calls
 pub mod TrimWays
 pub mod Finish
+pub mod Laws

@@ -1,21 +1,29 @@
 -- One law for each way out of the entry `trim`, by what the judge of the call found.
 use mathlib.Core.List.{List}
-use mathlib.Core.Path.{refl, subst, sym, _∙_, _≡_}
-use Prim.Native.Nat.{ℕ}
+use mathlib.Core.Logic.{_≢_}
+use mathlib.Core.Path.{refl, sym, _∙_, _≡_}
+use Prim.Native.Nat.{suc, zero, ℕ}
 use lib.ListN.{length}
-use Rattle.circuit.proofs.Judging.{list-done, or-pass, short-pass}
+use Rattle.circuit.proofs.Judging.{list-done, list-number, or-pass, short-pass}
 use Rattle.circuit.specs.Faults.{shortFault}
 use Rattle.circuit.specs.Limits.{logCells, writeBytes}
 use Rattle.circuit.specs.declared.Reply.{Reply}
 use Rattle.circuit.specs.declared.Reply.the-variants as reply
-use Rattle.trimmer.specs.Entry.{Done-with, Outcome, TrimList, Trimmable, trimLent, verdict}
+use Rattle.trimmer.specs.Entry.{Done-with, TrimLeft, TrimList, Trimmable, trimLent, verdict}
 use Rattle.trimmer.specs.declared.Counts.{Counts}
 use Rattle.trimmer.specs.declared.TrimReply.the-variants.{Done, Refused}
 
 module _ {n : ℕ} {g out log : List ℕ} {found : Reply} (judged : found ≡ verdict n g (length out) (length log)) where
   pub trim-refused : {number place : ℕ} → found ≡ reply.Refused number place → TrimList n g out log out log (Refused number place)
-  trim-refused {number} {place} e =
-      record { outcome = subst (λ (v : Reply). Outcome v n g out log out log (Refused number place)) (sym e ∙ judged) (refl, refl, refl) }
+  trim-refused {number} e =
+      record { reply = sym e ∙ judged; left = same number (list-number n g (trimLent (length out) (length log)) (sym judged ∙ e)) }
+    where
+      none : Counts
+      none = record { tin = 0; odd = 0; tout = 0; moves = 0; gates = 0 }
+
+      same : (f : ℕ) → f ≢ 0 → TrimLeft f none n g out log out log
+      same zero h = absurd (h refl)
+      same (suc f) h = (refl, refl)
 
   pub may-trim : found ≡ reply.Done → Trimmable n g out log
   may-trim e =
@@ -25,5 +33,4 @@ module _ {n : ℕ} {g out log : List ℕ} {found : Reply} (judged : found ≡ ve
 
   pub trim-done : {out′ log′ : List ℕ} {counts : Counts} → found ≡ reply.Done → Done-with n g out log out′ log′ counts
       → TrimList n g out log out′ log′ (Done counts)
-  trim-done {out′} {log′} {counts} e d =
-      record { outcome = subst (λ (v : Reply). Outcome v n g out log out′ log′ (Done counts)) (sym e ∙ judged) (counts, refl, d) }
+  trim-done e d = record { reply = sym e ∙ judged; left = d }

@@ -17,7 +17,7 @@ use Rattle.circuit.specs.Read.{read}
 use Rattle.circuit.specs.Run.{SameAction}
 use Rattle.circuit.specs.Says.{endState, phaseAt}
 use Rattle.circuit.specs.Sound.{SoundMarks}
-use Rattle.moves.proofs.Laws.{limits-suffice, none-legal-bound}
+use Rattle.moves.proofs.Laws.{limits-suffice, log-holds, none-legal-bound, one-number}
 use Rattle.moves.proofs.Logs.{logged-length}
 use Rattle.moves.proofs.Replaying.{replays-shrinks, replays-signature, replays-sound, signature-trans}
 use Rattle.moves.specs.Log.{logged}
@@ -79,6 +79,8 @@ module _ (n : ℕ) (fit : n ≤ maxWires) (C : List Gate) (fC : AllWellFormed n 
         → counts .moves ≡ k → counts .gates ≡ length D
         → Trimmed n C D log counts
     whole counts tin odd tout moves gates =
+        let made : Replays maxMembers n (oddSetOf n C) (logged moveCells log (counts .moves)) (oddSetOf n D) = rw (moves, odd-D) replayed in
+        let last : NoneLegal maxMembers n (oddSetOf n D) = rw odd-D none in
         record {
           formed = fD;
           acts = acts;
@@ -91,10 +93,11 @@ module _ (n : ℕ) (fit : n ≤ maxWires) (C : List Gate) (fC : AllWellFormed n 
                 t-D,
                 none-legal-bound parities n maxMembers (limits-suffice n fit .0) marks marks-sound (limits-suffice n fit .1) none,
               );
-          replayed = rw (moves, odd-D) replayed;
+          replayed = made;
           weights = rw odd-D wD;
-          finished = rw odd-D none;
-          moves-logged = logged-length moveCells (counts .moves) log;
+          finished = last;
+          moves-logged = λ m r. one-number maxMembers n moveCells log (oddSetOf n C) m (counts .moves) (oddSetOf n D) last r made;
+          log-holds = log-holds maxMembers n moveCells log (oddSetOf n C) (counts .moves) (oddSetOf n D) made;
           t-in = tin;
           odd-size = odd;
           gates-written = gates;

@@ -1,8 +1,9 @@
 -- The entry `trim`: its reply, and what it leaves in the lent gates and the lent log, for sound and faulty arguments alike.
 use mathlib.Core.List.{List}
 use mathlib.Core.Path.{_≡_}
-use Prim.Native.Nat.{_*_, _≤_, ℕ}
+use Prim.Native.Nat.{_*_, _≤_, suc, zero, ℕ}
 use lib.ListN.{length}
+use Rattle.circuit.specs.Entry.{numberOf}
 use Rattle.circuit.specs.Faults.{Accepted, listReply, orElse, shortFault}
 use Rattle.circuit.specs.Gate.{Gate, gatesOf}
 use Rattle.circuit.specs.Lent.{KeptFrom, frontGates}
@@ -16,6 +17,18 @@ use Rattle.trimmer.specs.declared.TrimReply.the-variants.{Done, Refused}
 use Rattle.circuit.specs.declared.Reply.{Reply}
 use Rattle.circuit.specs.declared.Reply.the-variants as reply
 
+-- ---- the reply
+
+-- each case in document 01's number and place: done, or the fault
+abbrev pub told : TrimReply → Reply
+told (Done counts) = reply.Done
+told (Refused number place) = reply.Refused number place
+
+-- the counts, all 0 where it refused
+abbrev pub countsOf : TrimReply → Counts
+countsOf (Done counts) = counts
+countsOf (Refused number place) = record { tin = 0; odd = 0; tout = 0; moves = 0; gates = 0 }
+
 -- 8, by the lengths of the gates lent and of the log lent
 abbrev pub trimLent : ℕ → ℕ → ℕ
 trimLent out log = orElse (shortFault out writeBytes) (shortFault log logCells)
@@ -23,6 +36,8 @@ trimLent out log = orElse (shortFault out writeBytes) (shortFault log logCells)
 -- the first fault, from what goes in alone: 1, 2, 8, then 3, 4, 5 by gate; nothing else is refused
 abbrev pub verdict : ℕ → List ℕ → ℕ → ℕ → Reply
 verdict n bytes out log = listReply n bytes (trimLent out log)
+
+-- ---- the buffers lent
 
 -- an accepted C, and outputs that are long enough
 pub record Trimmable (n : ℕ) (bytes out log : List ℕ) : Type 0 where
@@ -43,11 +58,12 @@ pub record Done-with (n : ℕ) (bytes out log out′ log′ : List ℕ) (counts 
   pub gates-kept : KeptFrom (gateBytes * counts .gates) out out′
   pub log-kept : KeptFrom (moveCells * counts .moves) log log′
 
--- what is left and replied after a verdict
-abbrev pub Outcome : Reply → ℕ → List ℕ → List ℕ → List ℕ → List ℕ → List ℕ → TrimReply → Type 0
-Outcome reply.Done n bytes out log out′ log′ r = (counts : Counts) × (r ≡ Done counts) × Done-with n bytes out log out′ log′ counts
-Outcome (reply.Refused number place) n bytes out log out′ log′ r = (r ≡ Refused number place) × (out′ ≡ out) × (log′ ≡ log)
+-- the lent gates and the lent log after a reply of that number and these counts: D and its log; or as they were
+abbrev pub TrimLeft : ℕ → Counts → ℕ → List ℕ → List ℕ → List ℕ → List ℕ → List ℕ → Type 0
+TrimLeft zero counts n bytes out log out′ log′ = Done-with n bytes out log out′ log′ counts
+TrimLeft (suc fault) counts n bytes out log out′ log′ = (out′ ≡ out) × (log′ ≡ log)
 
 -- `trim`, called with the bytes of C, these gates and this log, replies r and leaves out′ and log′
 pub record TrimList (n : ℕ) (bytes out log out′ log′ : List ℕ) (r : TrimReply) : Type 0 where
-  pub outcome : Outcome (verdict n bytes (length out) (length log)) n bytes out log out′ log′ r
+  pub reply : told r ≡ verdict n bytes (length out) (length log)
+  pub left : TrimLeft (numberOf (told r)) (countsOf r) n bytes out log out′ log′

@@ -42,8 +42,10 @@ pub record Trimmed (n : ℕ) (C D : List Gate) (log : List ℕ) (counts : Counts
   pub weights : weightsOf n D ≡ newWeights parities n (weightsOf n C) (oddSetOf n D)
   -- no z and Y make a legal move from D's odd set
   pub finished : NoneLegal maxMembers n (oddSetOf n D)
-  -- the reported number of moves is the log's: that many are read from its start, each of them legal by `replayed`
-  pub moves-logged : length (logged moveCells log (counts .moves)) ≡ counts .moves
+  -- the reported number of moves is the log's: whenever its first m moves, each legal on the marks it gets, lead from C's odd set to D's,
+  -- m is that number; and the log is long enough to hold them
+  pub moves-logged : (m : ℕ) → Replays maxMembers n (oddSetOf n C) (logged moveCells log m) (oddSetOf n D) → m ≡ counts .moves
+  pub log-holds : moveCells * counts .moves ≤ length log
   -- and the other reported counts are those of C and D
   pub t-in : counts .tin ≡ tGates C
   pub odd-size : counts .odd ≡ members (oddSetOf n C)

@@ -4,7 +4,7 @@ use mathlib.Core.List.{List}
 use mathlib.Core.Path.{_≡_}
 use Prim.Native.Nat.{ℕ}
 use lib.ListN.{length}
-use Rattle.circuit.specs.Entry.{after}
+use Rattle.circuit.specs.Entry.{after, numberOf}
 use Rattle.circuit.specs.Faults.{callReply, lentFault, orElse}
 use Rattle.circuit.specs.Limits.{maxWires, pairBytes, parities, tableBytes, tripleBytes}
 use Rattle.circuit.specs.OddSet.{oddSet}
@@ -22,7 +22,7 @@ oddSetFault n w marks = callFault n (lentFault marks tableBytes) (weightsFault n
 -- `odd_set`, called with these weights and marks, replies r and leaves marks′
 pub record OddSetOf (n : ℕ) (weights marks marks′ : List ℕ) (r : Reply) : Type 0 where
   pub reply : r ≡ callReply (oddSetFault n weights (length marks))
-  pub marks-left : marks′ ≡ after r (oddSet weights) marks
+  pub marks-left : marks′ ≡ after (numberOf r) (oddSet weights) marks
 
 -- ---- coefficients
 
@@ -37,9 +37,9 @@ coefficientsFault n w l q c = callFault n (listsFault l q c) (weightsFault n w)
 -- `coefficients`, called with these weights and lists, replies r and leaves l′, q′ and c′
 pub record CoefficientsOf (n : ℕ) (weights l q c l′ q′ c′ : List ℕ) (r : Reply) : Type 0 where
   pub reply : r ≡ callReply (coefficientsFault n weights (length l) (length q) (length c))
-  pub l-left : l′ ≡ after r (lList maxWires n weights) l
-  pub q-left : q′ ≡ after r (qList maxWires n weights) q
-  pub c-left : c′ ≡ after r (cList maxWires n weights) c
+  pub l-left : l′ ≡ after (numberOf r) (lList maxWires n weights) l
+  pub q-left : q′ ≡ after (numberOf r) (qList maxWires n weights) q
+  pub c-left : c′ ≡ after (numberOf r) (cList maxWires n weights) c
 
 -- ---- new_weights
 
@@ -50,4 +50,4 @@ newWeightsFault n w marks out = orElse (callFault n (lentFault out tableBytes) (
 -- `new_weights`, called with these weights, marks and output, replies r and leaves out′
 pub record NewWeightsOf (n : ℕ) (weights marks out out′ : List ℕ) (r : Reply) : Type 0 where
   pub reply : r ≡ callReply (newWeightsFault n weights marks (length out))
-  pub out-left : out′ ≡ after r (newWeights parities n weights marks) out
+  pub out-left : out′ ≡ after (numberOf r) (newWeights parities n weights marks) out

@@ -1,6 +1,7 @@
 -- A refusal leaves the lists as they were; where there is none, they are as long as they must be, and are written.
-use mathlib.Core.Path.{refl}
+use mathlib.Core.Logic.{_≢_}
 use borrow.Author.Needs.{needs}
+use Rattle.circuit.proofs.Judging.{after-refusal}
 use Rattle.circuit.proofs.TableRule.{call-done, call-refusal}
 use Rattle.weights.proofs.Ways.{lists-fit}
 use Rattle.weights.proofs.coefficients.Statement.{statement}
@@ -9,7 +10,13 @@ use Rattle.weights.proofs.coefficients.Tie as tie
 returns : tie.Need-returns
 returns c =
     let f : tie.After-coefficients-fault = search in
-    record { reply = call-refusal _ _ (f .coefficients-fault .ensures) (search); l-left = refl; q-left = refl; c-left = refl }
+    let some : f .coefficients-fault .result ≢ 0 = search in
+    record {
+      reply = call-refusal _ _ (f .coefficients-fault .ensures) some;
+      l-left = after-refusal _ _ _ some;
+      q-left = after-refusal _ _ _ some;
+      c-left = after-refusal _ _ _ some;
+    }
 
 put-lists-requires : tie.Need-put-lists-requires
 put-lists-requires c κs =

@@ -1,7 +1,8 @@
 -- A refusal leaves the output as it was; where there is none, all that the writer takes is sound.
-use mathlib.Core.Path.{refl}
+use mathlib.Core.Logic.{_≢_}
 use borrow.Author.Needs.{needs}
 use denote.Ref.{now}
+use Rattle.circuit.proofs.Judging.{after-refusal}
 use Rattle.circuit.proofs.TableRule.{call-done, call-refusal}
 use Rattle.weights.proofs.Ways.{new-fits}
 use Rattle.weights.proofs.new_weights.Statement.{statement}
@@ -10,7 +11,8 @@ use Rattle.weights.proofs.new_weights.Tie as tie
 returns : tie.Need-returns
 returns c =
     let f : tie.After-new-weights-fault = search in
-    record { reply = call-refusal _ _ (f .new-weights-fault .ensures) (search); out-left = refl }
+    let some : f .new-weights-fault .result ≢ 0 = search in
+    record { reply = call-refusal _ _ (f .new-weights-fault .ensures) some; out-left = after-refusal _ _ _ some }
 
 put-new-weights-requires : tie.Need-put-new-weights-requires
 put-new-weights-requires c κs =

@@ -1,7 +1,8 @@
 -- A refusal leaves the marks as they were; where there is none, they are as long as the weights, and become the odd set.
-use mathlib.Core.Path.{refl}
+use mathlib.Core.Logic.{_≢_}
 use borrow.Author.Needs.{needs}
 use denote.Ref.{now}
+use Rattle.circuit.proofs.Judging.{after-refusal}
 use Rattle.circuit.proofs.TableRule.{call-done, call-refusal}
 use Rattle.weights.proofs.Ways.{odd-fits}
 use Rattle.weights.proofs.odd_set.Statement.{statement}
@@ -10,7 +11,8 @@ use Rattle.weights.proofs.odd_set.Tie as tie
 returns : tie.Need-returns
 returns c =
     let f : tie.After-odd-set-fault = search in
-    record { reply = call-refusal _ _ (f .odd-set-fault .ensures) (search); marks-left = refl }
+    let some : f .odd-set-fault .result ≢ 0 = search in
+    record { reply = call-refusal _ _ (f .odd-set-fault .ensures) some; marks-left = after-refusal _ _ _ some }
 
 put-odd-set-requires : tie.Need-put-odd-set-requires
 put-odd-set-requires c κs =
