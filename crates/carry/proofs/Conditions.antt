@@ -10,11 +10,12 @@ use lib.Bits.{xor-lt}
 use lib.ListN.{List·getD-eq-default, drop, getD, length, length-drop}
 use lib.Seq.{length-take-le}
 use Rattle.circuit.specs.Limits.{moveHead}
+use Rattle.circuit.specs.OddSet.{Member}
 use Rattle.gf2.proofs.Pairing.{xor-equal}
 use Rattle.gf2.specs.Over.{Below}
 use Rattle.moves.proofs.Logs.{cells-checked}
 use Rattle.moves.specs.Log.{LegalCells, MoveForm, setOf, zOf}
-use Rattle.moves.specs.Move.{Legal, Member, Separates}
+use Rattle.moves.specs.Move.{Legal, Separates}
 use Rattle.carry.proofs.Deciding.{decides-as}
 use Rattle.carry.specs.Decides.{AllMembers, Decides}
 

@@ -3,7 +3,7 @@ use mathlib.Core.Bool.{Bool, false, true}
 use mathlib.Core.List.{List}
 use mathlib.Core.Path.{_≡_}
 use Prim.Native.Nat.{ℕ}
-use Rattle.moves.specs.Move.{Member}
+use Rattle.circuit.specs.OddSet.{Member}
 use Rattle.moves.specs.Sets.{In}
 
 -- the answer is true exactly if P holds

@@ -8,7 +8,7 @@ use lib.ListN.{length}
 use Rattle.circuit.specs.Entry.{after, numberOf}
 use Rattle.circuit.specs.Faults.{badMove, lentFault, refuse}
 use Rattle.circuit.specs.Limits.{maxMembers, parities, tableBytes}
-use Rattle.circuit.specs.OddSet.{members}
+use Rattle.circuit.specs.OddSet.{memberCount}
 use Rattle.circuit.specs.Sound.{SoundMarks}
 use Rattle.circuit.specs.declared.Reply.{Reply}
 use Rattle.circuit.specs.declared.Reply.the-variants.{Done, Refused}
@@ -37,4 +37,4 @@ pub record CarriesOut (n : ℕ) (marks cells marks′ : List ℕ) (r : Reply) : 
   -- the signature stays; the marks are sound again; the odd set shrinks by one at least
   pub signature : r ≡ Done → SameSignature n marks′ marks
   pub sound : r ≡ Done → SoundMarks parities n marks′
-  pub smaller : r ≡ Done → members marks′ + 1 ≤ members marks
+  pub smaller : r ≡ Done → memberCount marks′ + 1 ≤ memberCount marks

@@ -18,7 +18,7 @@ use Rattle.circuit.specs.Gate.{Gate, gate, gatesOf, isT, tGates}
 use Rattle.circuit.specs.Lent.{readingLent}
 use Rattle.circuit.specs.Limits.{logCells, maxGates, maxListBytes, maxMembers, maxWires, maxWrittenGates, moveCells, productBits}
 use Rattle.circuit.specs.Limits.{rowCells, tableBytes, writeBytes}
-use Rattle.circuit.specs.OddSet.{members, oddSet}
+use Rattle.circuit.specs.OddSet.{memberCount, oddSet}
 use Rattle.circuit.specs.Read.{Reading, read}
 use Rattle.circuit.specs.Run.{run}
 use Rattle.circuit.specs.Says.{endState, says}
@@ -44,12 +44,12 @@ independent-exactly n rows within = (independent-distinct n rows within, distinc
 -- one T or T dagger put anywhere moves the size of the odd set by exactly one, up or down
 pub one-t-moves-one : (N n : ℕ) → n ≤ N → (xs ys : List Gate) (kind a b : ℕ) → AllWellFormed n xs → AllWellFormed n ys
     → WellFormed n (gate kind a b) → isT kind ≡ 1
-    → (members (oddSet (read N n (xs ++ gate kind a b ∷ ys) .weights)) ≡ members (oddSet (read N n (xs ++ ys) .weights)) + 1)
-    ⊎ (members (oddSet (read N n (xs ++ ys) .weights)) ≡ members (oddSet (read N n (xs ++ gate kind a b ∷ ys) .weights)) + 1)
+    → (memberCount (oddSet (read N n (xs ++ gate kind a b ∷ ys) .weights)) ≡ memberCount (oddSet (read N n (xs ++ ys) .weights)) + 1)
+    ⊎ (memberCount (oddSet (read N n (xs ++ ys) .weights)) ≡ memberCount (oddSet (read N n (xs ++ gate kind a b ∷ ys) .weights)) + 1)
 one-t-moves-one = t-moves-one
 
 -- so a list has at least as many T and T dagger gates as its odd set has members
-pub odd-set-no-larger : (N n : ℕ) → n ≤ N → (gs : List Gate) → AllWellFormed n gs → members (oddSet (read N n gs .weights)) ≤ tGates gs
+pub odd-set-no-larger : (N n : ℕ) → n ≤ N → (gs : List Gate) → AllWellFormed n gs → memberCount (oddSet (read N n gs .weights)) ≤ tGates gs
 odd-set-no-larger = odd-set-at-most-t
 
 -- ---- demand 1: the reply of `read`

@@ -3,7 +3,7 @@
 use mathlib.Core.List.{_++_, List, [], _∷_}
 use mathlib.Core.Logic.{inl, inr, _⊎_}
 use mathlib.Core.Path.{ap, refl, sym, _∙_, _≡_}
-use Prim.Native.Nat.{_%_, _+_, _<_, _^_, ℕ, _≤_}
+use Prim.Native.Nat.{_%_, _+_, _<_, _^_, suc, zero, ℕ, _≤_}
 use native.Mathlib.Omega.{arith}
 use lib.ListN.{List·getD-map, getD, length, length-map, length-set, set}
 use lib.Pow.{pow-mono}
@@ -11,13 +11,13 @@ use lib.Seq.{getD-set-other, getD-set-same}
 use Rattle.gf2.proofs.Bit.{bit-values}
 use Rattle.gf2.proofs.Sum.{sum-ext, sum-update, sum-zero}
 use Rattle.gf2.proofs.Table.{addAt-comm}
-use Rattle.gf2.specs.Sum.{sum}
+use Rattle.gf2.specs.Sum.{delta, sum}
 use Rattle.gf2.specs.Table.{addAt}
 use Rattle.circuit.proofs.GateKinds.{t-is-odd, turnOf}
 use Rattle.circuit.proofs.Sound.{gate-keeps, no-weight, read-append, read-sound, reading-keeps, start-sound}
 use Rattle.circuit.specs.Faults.{AllWellFormed, KindWellFormed, WellFormed}
 use Rattle.circuit.specs.Gate.{Gate, gate, isT, kindOf, tGates}
-use Rattle.circuit.specs.OddSet.{members, oddSet}
+use Rattle.circuit.specs.OddSet.{memberCount, oddSet}
 use Rattle.circuit.specs.Read.{Reading, noWeights, read, readFrom, readGate, readKind, row, start, withWeights}
 use Rattle.circuit.specs.Sound.{SoundReading}
 use Rattle.circuit.specs.declared.gates.Kind.{Kind}
@@ -35,10 +35,25 @@ pub length-odd : (w : List ℕ) → length (oddSet w) ≡ length w
 unfolding oddSet
 length-odd w = length-map w (λ x. x % 2)
 
-members-odds : (w : List ℕ) → members (oddSet w) ≡ odds w
-unfolding members odds
+-- no mark above 1: then the members are the sum of the marks
+bit-member : (x : ℕ) → x < 2 → delta 1 x ≡ x
+unfolding delta
+bit-member zero h = refl
+bit-member (suc zero) h = refl
+bit-member (suc (suc x)) h = absurd (omega arith)
+
+pub members-sum : (marks : List ℕ) → ((p : ℕ) → getD marks p 0 < 2) → memberCount marks ≡ sum (length marks) (λ p. getD marks p 0)
+unfolding memberCount
+members-sum marks bits =
+    sum-ext (length marks) (λ p. delta 1 (getD marks p 0)) (λ p. getD marks p 0) (λ p l. bit-member (getD marks p 0) (bits p))
+
+pub odd-bits : (w : List ℕ) (p : ℕ) → getD (oddSet w) p 0 < 2
+odd-bits w p = omega (arith, odd-mark w p)
+
+members-odds : (w : List ℕ) → memberCount (oddSet w) ≡ odds w
+unfolding odds
 members-odds w =
-    ap (λ (k : ℕ). sum k (λ p. getD (oddSet w) p 0)) (length-odd w)
+    members-sum (oddSet w) (odd-bits w) ∙ ap (λ (k : ℕ). sum k (λ p. getD (oddSet w) p 0)) (length-odd w)
     ∙ sum-ext (length w) (λ p. getD (oddSet w) p 0) (λ p. getD w p 0 % 2) (λ p l. odd-mark w p)
 
 moved : (s s′ x v : ℕ) → s′ + x % 2 ≡ s + (x + v) % 8 % 2 → v % 2 ≡ 1 → (s′ ≡ s + 1) ⊎ (s ≡ s′ + 1)
@@ -58,12 +73,12 @@ odds-change w q v h =
 
 -- an odd phase added to one weight moves the size of the odd set by exactly one
 pub odd-moves : (w : List ℕ) (q v : ℕ) → q < length w → v % 2 ≡ 1
-    → (members (oddSet (addAt 8 w q v)) ≡ members (oddSet w) + 1) ⊎ (members (oddSet w) ≡ members (oddSet (addAt 8 w q v)) + 1)
+    → (memberCount (oddSet (addAt 8 w q v)) ≡ memberCount (oddSet w) + 1) ⊎ (memberCount (oddSet w) ≡ memberCount (oddSet (addAt 8 w q v)) + 1)
 odd-moves w q v h o =
     rw (members-odds w, members-odds (addAt 8 w q v)) (moved (odds w) (odds (addAt 8 w q v)) (getD w q 0) v (odds-change w q v h) o)
 
 -- an even one leaves it
-pub even-stays : (w : List ℕ) (q v : ℕ) → q < length w → v % 2 ≡ 0 → members (oddSet (addAt 8 w q v)) ≡ members (oddSet w)
+pub even-stays : (w : List ℕ) (q v : ℕ) → q < length w → v % 2 ≡ 0 → memberCount (oddSet (addAt 8 w q v)) ≡ memberCount (oddSet w)
 even-stays w q v h o =
     rw (members-odds w, members-odds (addAt 8 w q v)) (stayed (odds w) (odds (addAt 8 w q v)) (getD w q 0) v (odds-change w q v h) o)
   where
@@ -121,8 +136,8 @@ module _ (N n : ℕ) (fit : n ≤ N) (xs ys : List Gate) (kind a b : ℕ) (fx : 
 
   -- one T or T dagger put anywhere moves the size of the odd set by exactly one
   pub t-moves-one : isT kind ≡ 1
-      → (members (oddSet (read N n (xs ++ gate kind a b ∷ ys) .weights)) ≡ members (oddSet (read N n (xs ++ ys) .weights)) + 1)
-      ⊎ (members (oddSet (read N n (xs ++ ys) .weights)) ≡ members (oddSet (read N n (xs ++ gate kind a b ∷ ys) .weights)) + 1)
+      → (memberCount (oddSet (read N n (xs ++ gate kind a b ∷ ys) .weights)) ≡ memberCount (oddSet (read N n (xs ++ ys) .weights)) + 1)
+      ⊎ (memberCount (oddSet (read N n (xs ++ ys) .weights)) ≡ memberCount (oddSet (read N n (xs ++ gate kind a b ∷ ys) .weights)) + 1)
   unfolding readFrom without
   t-moves-one t =
       let o : turnOf (kindOf kind) % 2 ≡ 1 = sym (t-is-odd kind) ∙ t in
@@ -132,7 +147,7 @@ module _ (N n : ℕ) (fit : n ≤ N) (xs ys : List Gate) (kind a b : ℕ) (fx : 
 -- ---- along the list
 
 kind-odds : (N n : ℕ) → n ≤ N → (k : Kind) (a b : ℕ) (r : Reading) → KindWellFormed n k a b → SoundReading N n r
-    → members (oddSet (readKind k a b r .weights)) ≤ turnOf k % 2 + members (oddSet (r .weights))
+    → memberCount (oddSet (readKind k a b r .weights)) ≤ turnOf k % 2 + memberCount (oddSet (r .weights))
 unfolding readKind
 kind-odds N n fit Cnot a b r f o = omega arith
 kind-odds N n fit (Phase v) a b r f o = go (bit-values (v % 2) (omega arith))
@@ -141,15 +156,15 @@ kind-odds N n fit (Phase v) a b r f o = go (bit-values (v % 2) (omega arith))
     up m m′ e (inl h) = omega arith
     up m m′ e (inr h) = omega arith
 
-    go : (v % 2 ≡ 0) ⊎ (v % 2 ≡ 1) → members (oddSet (addAt 8 (r .weights) (row r a) v)) ≤ v % 2 + members (oddSet (r .weights))
+    go : (v % 2 ≡ 0) ⊎ (v % 2 ≡ 1) → memberCount (oddSet (addAt 8 (r .weights) (row r a) v)) ≤ v % 2 + memberCount (oddSet (r .weights))
     go (inl e) = omega (arith, even-stays (r .weights) (row r a) v (lands N n fit r o a) e)
     go (inr e) =
-        up (members (oddSet (r .weights))) (members (oddSet (addAt 8 (r .weights) (row r a) v))) e
+        up (memberCount (oddSet (r .weights))) (memberCount (oddSet (addAt 8 (r .weights) (row r a) v))) e
         (odd-moves (r .weights) (row r a) v (lands N n fit r o a) e)
 kind-odds N n fit Unknown a b r f o = absurd f
 
 reading-odds : (N n : ℕ) → n ≤ N → (gs : List Gate) (r : Reading) → AllWellFormed n gs → SoundReading N n r
-    → members (oddSet (readFrom gs r .weights)) ≤ tGates gs + members (oddSet (r .weights))
+    → memberCount (oddSet (readFrom gs r .weights)) ≤ tGates gs + memberCount (oddSet (r .weights))
 unfolding readFrom tGates
 reading-odds N n fit [] r f o = omega arith
 reading-odds N n fit (gate kind a b ∷ gs) r f o =
@@ -160,7 +175,7 @@ reading-odds N n fit (gate kind a b ∷ gs) r f o =
       t-is-odd kind,
     )
 
-members-none : (N : ℕ) → members (oddSet (noWeights N)) ≡ 0
+members-none : (N : ℕ) → memberCount (oddSet (noWeights N)) ≡ 0
 unfolding odds
 members-none N =
     members-odds (noWeights N)
@@ -168,5 +183,5 @@ members-none N =
     ∙ sum-zero (length (noWeights N))
 
 -- the odd set has at most as many members as the list has T and T dagger gates
-pub odd-set-at-most-t : (N n : ℕ) → n ≤ N → (gs : List Gate) → AllWellFormed n gs → members (oddSet (read N n gs .weights)) ≤ tGates gs
+pub odd-set-at-most-t : (N n : ℕ) → n ≤ N → (gs : List Gate) → AllWellFormed n gs → memberCount (oddSet (read N n gs .weights)) ≤ tGates gs
 odd-set-at-most-t N n fit gs f = omega (arith, reading-odds N n fit gs (start N n) f (start-sound N n fit), members-none N)

@@ -9,8 +9,9 @@ use native.Mathlib.Nat.{le-refl, mul-one}
 use native.Mathlib.Omega.{arith}
 use lib.ListN.{List·getD-eq-default, drop, getD, length, take, take-append-drop}
 use lib.Seq.{getD-take, length-take-le, take-all, take-take}
+use Rattle.circuit.proofs.OddSet.{members-sum}
 use Rattle.circuit.specs.Limits.{maxMembers, maxWires, parities, productBits}
-use Rattle.circuit.specs.OddSet.{members}
+use Rattle.circuit.specs.OddSet.{Member, memberCount}
 use Rattle.circuit.specs.Sound.{SoundMarks, weight}
 use Rattle.gf2.proofs.Over.{length-sumOver, sumOver-append}
 use Rattle.gf2.proofs.Sum.{sum-ext}
@@ -23,7 +24,7 @@ use Rattle.moves.specs.declared.Sought.the-variants.{Found, Nothing}
 use Rattle.moves.proofs.Bound.{bound}
 use Rattle.moves.proofs.Laws.{limits-suffice}
 use Rattle.moves.proofs.Sets.{occ, sumOver-occ}
-use Rattle.moves.specs.Move.{Legal, Member, NoneLegal}
+use Rattle.moves.specs.Move.{Legal, NoneLegal}
 use Rattle.finder.proofs.Listing.{gathered-length, gathered-members, gathered-search}
 use Rattle.finder.specs.Search.{Enough, Gathered, Searched}
 
@@ -48,10 +49,9 @@ unfolding marksOf
 marks-long ys = length-tabulate parities (λ p. occ p ys)
 
 -- the marks of a list of members are as many as the list has
-members-listed : (ys : List ℕ) → Members ys → members (marksOf ys) ≡ length ys
-unfolding members
+members-listed : (ys : List ℕ) → Members ys → memberCount (marksOf ys) ≡ length ys
 members-listed ys h =
-    rw (marks-long ys)
+    rw (members-sum (marksOf ys) (h .sound .bits), marks-long ys)
     (sum-ext parities (λ p. getD (marksOf ys) p 0) (λ p. occ p ys * 1) (λ p l. mark-of ys p l ∙ sym (mul-one (occ p ys)))
     ∙ sym (sumOver-occ parities (λ y. 1) ys (h .below)) ∙ sym (length-sumOver ys))
 

@@ -9,7 +9,7 @@ use Rattle.circuit.proofs.TableRule.{marks-passes}
 use Rattle.circuit.specs.Entry.{numberOf, placeOf}
 use Rattle.circuit.specs.Faults.{callReply, lentFault}
 use Rattle.circuit.specs.Limits.{maxMembers, maxWires, moveCells, parities}
-use Rattle.circuit.specs.OddSet.{members}
+use Rattle.circuit.specs.OddSet.{memberCount}
 use Rattle.circuit.specs.Sound.{SoundMarks}
 use Rattle.circuit.specs.declared.Reply.the-variants.{Done}
 use Rattle.moves.proofs.Laws.{limits-suffice, none-legal-bound}
@@ -78,7 +78,7 @@ module _ (n : ℕ) (marks cells cells′ : List ℕ) where
       none-exactly = (λ e. let a = subst Left e (h .cells-left) in a .1, answer-none r done (h .cells-left))
 
       -- where none is found, the odd set has at most (n² + n)/2 + 1 members
-      pub none-few : r ≡ Nothing → members marks ≤ (n * n + n) / 2 + 1
+      pub none-few : r ≡ Nothing → memberCount marks ≤ (n * n + n) / 2 + 1
       none-few e =
           let l = limits-suffice n (sound .few) in
           none-legal-bound parities n maxMembers (l .0) marks (sound .marked) (l .1) (none-exactly .0 e)

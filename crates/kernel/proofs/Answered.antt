@@ -9,6 +9,7 @@ use native.Mathlib.Omega.{arith}
 use lib.Bits.{bitXor, xor-comm, xor-lt}
 use lib.ListN.{getD, length}
 use Rattle.circuit.specs.Limits.{maxMembers, maxWires, parities, productBits}
+use Rattle.circuit.specs.OddSet.{Member}
 use Rattle.gf2.proofs.Basis.{basis-same}
 use Rattle.gf2.proofs.Leading.{lowest-set}
 use Rattle.gf2.proofs.Pairing.{xor-equal}
@@ -21,7 +22,6 @@ use Rattle.moves.proofs.Keep.{member-lt}
 use Rattle.moves.proofs.Sets.{in-occ, occ, occ-in}
 use Rattle.moves.specs.Kappa.{kappa}
 use Rattle.moves.specs.Log.{LegalCells, asCells}
-use Rattle.moves.specs.Move.{Member}
 use Rattle.moves.specs.Pair.{Other, namedSet}
 use Rattle.moves.specs.Sets.{In}
 use Rattle.moves.specs.declared.Sought.{Sought}

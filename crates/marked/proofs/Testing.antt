@@ -1,15 +1,16 @@
 -- A test for each claim, to be computed: where it holds, so does the claim.
 use mathlib.Core.Bool.{_&&_, Bool, false, true}
 use mathlib.Core.List.{List, [], _∷_}
-use mathlib.Core.Path.{ap₂, _≡_}
-use Prim.Native.Nat.{_<_, _^_, ℕ}
+use mathlib.Core.Logic.{_≢_}
+use mathlib.Core.Path.{ap₂, sym, _∙_, _≡_}
+use Prim.Native.Nat.{_+_, _<_, _^_, ℕ}
 use native.Mathlib.Omega.{arith}
 use lib.Dec.{T, eqb, eqb→eq, ltb, ltb→lt}
 use Rattle.circuit.specs.Faults.{firstFault}
-use Rattle.circuit.specs.Gate.{tGates}
-use Rattle.circuit.specs.Limits.{maxMembers, maxWires}
-use Rattle.circuit.specs.OddSet.{members, oddSet}
-use Rattle.circuit.specs.Read.{read}
+use Rattle.circuit.specs.Gate.{Gate, tGates}
+use Rattle.circuit.specs.Limits.{maxMembers, maxWires, parities}
+use Rattle.circuit.specs.OddSet.{memberCount, oddSet}
+use Rattle.circuit.specs.Read.{noWeights, read}
 use Rattle.gf2.proofs.Brute.{T-both}
 use Rattle.gf2.proofs.Every.{every-at}
 use Rattle.gf2.specs.Every.{every}
@@ -18,7 +19,12 @@ use Rattle.moves.proofs.Deciding.{legal-decided, same-decided}
 use Rattle.moves.specs.CarryOut.{carryOut}
 use Rattle.moves.specs.Decide.{isLegal, sameCells}
 use Rattle.phase.specs.Coefficients.{c, l, q}
-use Rattle.marked.specs.Cases.{AllClaimed, Case, Claim, coefficients, dependent, leaves, reads, refuses, rowsWith, weightsWith}
+use Rattle.phase.specs.NewWeights.{newWeights}
+use Rattle.trimmer.specs.Trimmed.{oddSetOf, weightsOf}
+use Rattle.trimmer.specs.declared.Counts.{Counts}
+use Rattle.marked.proofs.Empty.{Nothing, all-none, nothing-counted}
+use Rattle.marked.specs.Cases.{AllClaimed, Case, Claim, coefficients, dependent, leaves, noCounts, oddSetWith, reads, refuses}
+use Rattle.marked.specs.Cases.{rowsWith, trims, weightsWith}
 use Rattle.circuit.specs.declared.Reply.{Reply}
 use Rattle.circuit.specs.declared.Reply.the-variants.{Done, Refused}
 
@@ -59,14 +65,43 @@ c-all n w d t i j k h g f =
     (every-at j (λ i. eqb (c w i j k) d)
     (every-at k (λ j. every j (λ i. eqb (c w i j k) d)) (every-at n (λ k. every k (λ j. every j (λ i. eqb (c w i j k) d))) t k f) j g) i h)
 
+-- a list has nothing to write, and counts are all 0
+unfoldable pub isNothing : List Gate → Bool
+isNothing gs =
+    eqb (tGates gs) 0 &&
+    (eqb (memberCount (oddSetOf 1 gs)) 0 && sameCells (newWeights parities 1 (weightsOf 1 gs) (oddSetOf 1 gs)) (noWeights maxWires))
+
+is-nothing : (gs : List Gate) → T (isNothing gs) → Nothing gs
+unfolding isNothing
+is-nothing gs h =
+    let new : List ℕ = newWeights parities 1 (weightsOf 1 gs) (oddSetOf 1 gs) in
+    let odd : ℕ = memberCount (oddSetOf 1 gs) in
+    let a = T-both (eqb (tGates gs) 0) (eqb odd 0 && sameCells new (noWeights maxWires)) .0 h in
+    let b = T-both (eqb odd 0) (sameCells new (noWeights maxWires)) .0 (a .1) in
+    record {
+      no-t = eqb→eq (tGates gs) 0 (a .0);
+      no-odd = eqb→eq odd 0 (b .0);
+      none = same-decided new (noWeights maxWires) .0 (b .1);
+    }
+
+unfoldable pub areNone : Counts → Bool
+areNone k = eqb (k .tin + k .odd + k .tout + k .moves + k .gates) 0
+
+are-none : (k : Counts) → T (areNone k) → k ≡ noCounts
+unfolding areNone
+are-none k h =
+    let e = eqb→eq (k .tin + k .odd + k .tout + k .moves + k .gates) 0 h in
+    all-none k (omega arith) (omega arith) (omega arith) (omega arith) (omega arith)
+
 unfoldable pub holds : Case → Bool
 holds (reads n gs es rows t odd) =
     sameCells (read maxWires n gs .weights) (weightsWith es) &&
     (sameCells (read maxWires n gs .rows) (rowsWith rows)
-    && (eqb (tGates gs) t && eqb (members (oddSet (read maxWires n gs .weights))) odd))
+    && (eqb (tGates gs) t && eqb (memberCount (oddSet (read maxWires n gs .weights))) odd))
+holds (trims n gs k) = eqb n 1 && (isNothing gs && areNone k)
 holds (refuses n gs number place) = isRefusal (firstFault n 0 gs) number place
 holds (coefficients n es a b d) = allL n (weightsWith es) a && (allQ n (weightsWith es) b && allC n (weightsWith es) d)
-holds (leaves n es z Y left) = isLegal maxMembers n (weightsWith es) z Y && sameCells (carryOut (weightsWith es) z Y) (weightsWith left)
+holds (leaves n es z Y left) = isLegal maxMembers n (oddSetWith es) z Y && sameCells (carryOut (oddSetWith es) z Y) (weightsWith left)
 holds (dependent n rows s) = ltb 0 s && (ltb s (2 ^ n) && eqb (combine s (rowsWith rows)) 0)
 
 pub claimed : (k : Case) → T (holds k) → Claim k
@@ -75,14 +110,18 @@ claimed (reads n gs es rows t odd) h =
     let w : List ℕ = read maxWires n gs .weights in
     let s : List ℕ = read maxWires n gs .rows in
     let a =
-    T-both (sameCells w (weightsWith es)) (sameCells s (rowsWith rows) && (eqb (tGates gs) t && eqb (members (oddSet w)) odd)) .0 h in
-    let b = T-both (sameCells s (rowsWith rows)) (eqb (tGates gs) t && eqb (members (oddSet w)) odd) .0 (a .1) in
-    let d = T-both (eqb (tGates gs) t) (eqb (members (oddSet w)) odd) .0 (b .1) in (
+    T-both (sameCells w (weightsWith es)) (sameCells s (rowsWith rows) && (eqb (tGates gs) t && eqb (memberCount (oddSet w)) odd)) .0 h in
+    let b = T-both (sameCells s (rowsWith rows)) (eqb (tGates gs) t && eqb (memberCount (oddSet w)) odd) .0 (a .1) in
+    let d = T-both (eqb (tGates gs) t) (eqb (memberCount (oddSet w)) odd) .0 (b .1) in (
       same-decided w (weightsWith es) .0 (a .0),
       same-decided s (rowsWith rows) .0 (b .0),
       eqb→eq (tGates gs) t (d .0),
-      eqb→eq (members (oddSet w)) odd (d .1),
+      eqb→eq (memberCount (oddSet w)) odd (d .1),
     )
+claimed (trims n gs k) h =
+    let a = T-both (eqb n 1) (isNothing gs && areNone k) .0 h in
+    let b = T-both (isNothing gs) (areNone k) .0 (a .1) in
+    rw (eqb→eq n 1 (a .0)) (λ D log counts t written. nothing-counted (is-nothing gs (b .0)) t written ∙ sym (are-none k (b .1)))
 claimed (refuses n gs number place) h = refusal (firstFault n 0 gs) number place h
 claimed (coefficients n es a b d) h =
     let w : List ℕ = weightsWith es in
@@ -90,12 +129,16 @@ claimed (coefficients n es a b d) h =
     let t = T-both (allQ n w b) (allC n w d) .0 (s .1) in
     record { l-is = l-all n w a (s .0); q-is = q-all n w b (t .0); c-is = c-all n w d (t .1) }
 claimed (leaves n es z Y left) h =
-    let s = T-both (isLegal maxMembers n (weightsWith es) z Y) (sameCells (carryOut (weightsWith es) z Y) (weightsWith left)) .0 h in
-    (legal-decided maxMembers n (weightsWith es) z Y .0 (s .0), same-decided (carryOut (weightsWith es) z Y) (weightsWith left) .0 (s .1))
+    let m : List ℕ = oddSetWith es in
+    let s = T-both (isLegal maxMembers n m z Y) (sameCells (carryOut m z Y) (weightsWith left)) .0 h in
+    (legal-decided maxMembers n m z Y .0 (s .0), same-decided (carryOut m z Y) (weightsWith left) .0 (s .1))
 claimed (dependent n rows s) h =
     let a = T-both (ltb 0 s) (ltb s (2 ^ n) && eqb (combine s (rowsWith rows)) 0) .0 h in
     let b = T-both (ltb s (2 ^ n)) (eqb (combine s (rowsWith rows)) 0) .0 (a .1) in
-    λ sound. sound .free s (omega (arith, ltb→lt 0 s (a .0))) (ltb→lt s (2 ^ n) (b .0)) (eqb→eq (combine s (rowsWith rows)) 0 (b .1))
+    let some : s ≢ 0 = omega (arith, ltb→lt 0 s (a .0)) in
+    let within : s < 2 ^ n = ltb→lt s (2 ^ n) (b .0) in
+    let cancel : combine s (rowsWith rows) ≡ 0 = eqb→eq (combine s (rowsWith rows)) 0 (b .1) in
+    (some, within, cancel, λ sound. sound .free s some within cancel)
 
 -- every case of a list holds
 unfoldable pub allHold : List Case → Bool

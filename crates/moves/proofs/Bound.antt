@@ -10,7 +10,8 @@ use native.Mathlib.Omega.{arith}
 use lib.Bits.{bitXor, xor-zero-l}
 use lib.ListN.{getD, length, take}
 use lib.Seq.{length-take-le}
-use Rattle.circuit.specs.OddSet.{members}
+use Rattle.circuit.proofs.OddSet.{members-sum}
+use Rattle.circuit.specs.OddSet.{Member, memberCount}
 use Rattle.circuit.specs.Sound.{SoundMarks, weight}
 use Rattle.gf2.proofs.Bit.{bit-lt, bit-of-zero}
 use Rattle.gf2.proofs.Dependence.{dependent}
@@ -23,7 +24,7 @@ use Rattle.moves.proofs.Even.{Even, even-add, even-by, even-scale}
 use Rattle.moves.proofs.Keep.{member-lt}
 use Rattle.moves.proofs.Products.{product-bit, product-lt}
 use Rattle.moves.proofs.Sets.{Rising, ascending, in-occ, listed-le, listed-length, listed-rising, occ, occ-below, rising-weaken}
-use Rattle.moves.specs.Move.{Balanced, Legal, Member, Movable, NoneLegal, triple}
+use Rattle.moves.specs.Move.{Balanced, Legal, Movable, NoneLegal, triple}
 use Rattle.moves.specs.Product.{product, tri}
 use Rattle.moves.specs.Sets.{In, listed, only}
 
@@ -196,17 +197,16 @@ module _ (size n most : ℕ) (marks : List ℕ) (sound : SoundMarks size n marks
       (λ p. omega (arith, take-sum (delta p) (suc (tri n)) M, sumOver-cons (delta p) b M, o p)) (omega arith)
       (t .0) (t .1) (rw long (t .2)) (t .3)
 
-  pub bound : NoneLegal most n marks → members marks ≤ tri n + 1
-  unfolding members
-  bound none = go (decLt (tri n + 1) (members marks))
+  pub bound : NoneLegal most n marks → memberCount marks ≤ tri n + 1
+  bound none = go (decLt (tri n + 1) (memberCount marks))
     where
       f : ℕ → ℕ
       f p = weight marks p
 
-      go : Dec (tri n + 1 < members marks) → members marks ≤ tri n + 1
+      go : Dec (tri n + 1 < memberCount marks) → memberCount marks ≤ tri n + 1
       go (yes l) =
           let m : Movable most n marks =
           crowded (listed (length marks) f) (listed-rising (length marks) f) (listed-le f (sound .bits) (length marks))
-          (rw (listed-length f (sound .bits) (length marks)) l) in
+          (rw (listed-length f (sound .bits) (length marks), ← (members-sum marks (sound .bits))) l) in
           absurd (none (m .z) (m .Y) (m .legal))
       go (no l) = omega arith

@@ -8,6 +8,7 @@ use native.Mathlib.Omega.{arith}
 use lib.Bits.{bitXor, xor-comm}
 use lib.Dec.{T, T-not, eqb, eqb-refl, eqb→eq, leb, leb→le, le→leb, ltb, ltb→lt, lt→ltb, not-T}
 use lib.ListN.{getD, length}
+use Rattle.circuit.specs.OddSet.{Member}
 use Rattle.circuit.specs.Sound.{weight}
 use Rattle.gf2.proofs.Brute.{T-both}
 use Rattle.gf2.proofs.Every.{any-at, at-any, at-every, every-at}
@@ -17,7 +18,7 @@ use Rattle.gf2.specs.Over.{sumOver, xorAll}
 use Rattle.moves.proofs.Logs.{cells-say}
 use Rattle.moves.specs.Decide.{areMembers, isAscending, isBalanced, isIn, isLegal, isMember, isMove, isSeparating, sameCells}
 use Rattle.moves.specs.Log.{LegalCells, asCells, setOf, zOf}
-use Rattle.moves.specs.Move.{Balanced, Legal, Member, Separates, triple}
+use Rattle.moves.specs.Move.{Balanced, Legal, Separates, triple}
 use Rattle.moves.specs.Sets.{Ascending, In}
 
 eqb-same : (x y : ℕ) → x ≡ y → T (eqb x y)

@@ -10,6 +10,7 @@ use native.Mathlib.Omega.{arith}
 use lib.Bits.{bitXor, xor-self}
 use lib.ListN.{getD, length, length-map}
 use lib.Seq.{getD-set-other, getD-set-same}
+use Rattle.circuit.specs.OddSet.{Member}
 use Rattle.circuit.specs.Sound.{SoundMarks}
 use Rattle.gf2.proofs.Basis.{basis-names, basis-none-gives, basis-same, basis-combines, members-long}
 use Rattle.gf2.proofs.Bit.{bit-of-zero}
@@ -29,7 +30,7 @@ use Rattle.moves.proofs.Pairs.{legal-listed, reach}
 use Rattle.moves.proofs.Sets.{listed-more}
 use Rattle.moves.specs.CarryOut.{flip}
 use Rattle.moves.specs.Kappa.{kappa}
-use Rattle.moves.specs.Move.{Legal, Member}
+use Rattle.moves.specs.Move.{Legal}
 use Rattle.moves.specs.Pair.{Offer, Other, Reach, named, namedSet}
 use Rattle.moves.specs.Sets.{listed}
 

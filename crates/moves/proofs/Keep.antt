@@ -7,6 +7,7 @@ use native.Mathlib.Omega.{arith}
 use lib.Bits.{bitXor, xor-lt}
 use lib.ListN.{List·getD-eq-default, getD, length}
 use lib.Pow.{pow-pos}
+use Rattle.circuit.specs.OddSet.{Member}
 use Rattle.circuit.specs.Sound.{SoundMarks, weight}
 use Rattle.gf2.proofs.Bit.{bit-lt, bit-of-zero}
 use Rattle.gf2.proofs.Cubic.{cubic}
@@ -22,7 +23,7 @@ use Rattle.moves.proofs.Even.{triples-all}
 use Rattle.moves.proofs.Flips.{carryOut-bits, carryOut-length, clear-carryOut}
 use Rattle.moves.proofs.Sets.{occ, occ-out}
 use Rattle.moves.specs.CarryOut.{carryOut}
-use Rattle.moves.specs.Move.{Legal, Member, Separates}
+use Rattle.moves.specs.Move.{Legal, Separates}
 use Rattle.moves.specs.Sets.{In}
 
 pub member-lt : (size n : ℕ) (marks : List ℕ) → SoundMarks size n marks → (p : ℕ) → Member marks p → p < 2 ^ n

@@ -11,7 +11,7 @@ use lib.Dec.{T}
 use lib.ListN.{length}
 use lib.Pow.{pow-mono}
 use Rattle.circuit.specs.Limits.{maxMembers, maxWires, parities, productBits}
-use Rattle.circuit.specs.OddSet.{members}
+use Rattle.circuit.specs.OddSet.{Member, memberCount}
 use Rattle.circuit.specs.Sound.{SoundMarks}
 use Rattle.gf2.proofs.Leading.{lowest-set}
 use Rattle.gf2.specs.Bit.{bit}
@@ -32,7 +32,7 @@ use Rattle.moves.specs.CarryOut.{carryOut}
 use Rattle.moves.specs.Decide.{isMove}
 use Rattle.moves.specs.Kappa.{kappa}
 use Rattle.moves.specs.Log.{LegalCells, asCells, logged}
-use Rattle.moves.specs.Move.{Balanced, Legal, Member, NoneLegal}
+use Rattle.moves.specs.Move.{Balanced, Legal, NoneLegal}
 use Rattle.moves.specs.Pair.{Offer, Reach}
 use Rattle.moves.specs.Product.{product, tri}
 use Rattle.moves.specs.Replay.{Replays}
@@ -62,11 +62,11 @@ module _ (size n most : ℕ) (room : 2 ^ n ≤ size) (marks : List ℕ) (sound :
   move-leaves-sound = sound-kept size n most room marks sound
 
   -- the odd set shrinks by one at least
-  pub move-shrinks : (z : ℕ) (Y : List ℕ) → Legal most n marks z Y → members (carryOut marks z Y) + 1 ≤ members marks
+  pub move-shrinks : (z : ℕ) (Y : List ℕ) → Legal most n marks z Y → memberCount (carryOut marks z Y) + 1 ≤ memberCount marks
   move-shrinks = shrinks size n most room marks sound
 
   -- where no move is legal, at most (n² + n)/2 + 1 members are left
-  pub none-legal-bound : tri n + 1 ≤ most → NoneLegal most n marks → members marks ≤ (n * n + n) / 2 + 1
+  pub none-legal-bound : tri n + 1 ≤ most → NoneLegal most n marks → memberCount marks ≤ (n * n + n) / 2 + 1
   none-legal-bound enough none = rw (← (tri-square n)) (bound size n most marks sound enough none)
 
   -- on more wires the same moves are legal
@@ -106,7 +106,7 @@ pub replay-keeps-signature : (size n most : ℕ) → 2 ^ n ≤ size → (m : Lis
 replay-keeps-signature = replays-signature
 
 pub replay-shrinks : (size n most : ℕ) → 2 ^ n ≤ size → (m : List ℕ) (moves : List (List ℕ)) (m′ : List ℕ) → SoundMarks size n m
-    → Replays most n m moves m′ → length moves + members m′ ≤ members m
+    → Replays most n m moves m′ → length moves + memberCount m′ ≤ memberCount m
 replay-shrinks = replays-shrinks
 
 -- a log leads to marks without a legal move by one number of its moves, and is long enough to hold them

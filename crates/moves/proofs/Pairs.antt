@@ -8,6 +8,7 @@ use native.Mathlib.Decide.{decLt, ℕ-discrete}
 use native.Mathlib.Omega.{arith}
 use lib.Bits.{bitXor, xor-lt, xor-self}
 use lib.ListN.{getD}
+use Rattle.circuit.specs.OddSet.{Member}
 use Rattle.circuit.specs.Sound.{SoundMarks}
 use Rattle.gf2.proofs.Bit.{bit-of-zero}
 use Rattle.gf2.proofs.Over.{length-sumOver, xorAll-more}
@@ -21,7 +22,7 @@ use Rattle.moves.proofs.OneXor.{balanced-iff}
 use Rattle.moves.proofs.Sets.{in-listed, in-occ, listed-ascending, listed-in, listed-length, listed-more, listed-occ, listed-sum}
 use Rattle.moves.proofs.Sets.{occ, occ-in, occ-once, occ-out, out-occ, rising, sumOver-occ}
 use Rattle.moves.specs.Kappa.{kappa}
-use Rattle.moves.specs.Move.{Legal, Member, NoneLegal, Separates}
+use Rattle.moves.specs.Move.{Legal, NoneLegal, Separates}
 use Rattle.moves.specs.Pair.{Offer, Other, Reach}
 use Rattle.moves.specs.Sets.{Ascending, In, listed}
 

@@ -6,7 +6,7 @@ use Prim.Native.Nat.{_*_, _+_, _-_, _<_, _^_, _≤_, suc, zero, ℕ}
 use native.Mathlib.Decide.{decLt}
 use native.Mathlib.Omega.{arith}
 use lib.ListN.{length}
-use Rattle.circuit.specs.OddSet.{members}
+use Rattle.circuit.specs.OddSet.{memberCount}
 use Rattle.circuit.specs.Sound.{SoundMarks}
 use Rattle.phase.specs.Signature.{SameSignature}
 use Rattle.moves.proofs.Keep.{keeps, sound-kept}
@@ -64,9 +64,9 @@ module _ (size n most : ℕ) (room : 2 ^ n ≤ size) where
       (keeps size n most room m sound (f .z) (f .Y) (f .legal))
 
   pub replays-shrinks : (m : List ℕ) (moves : List (List ℕ)) (m′ : List ℕ) → SoundMarks size n m → Replays most n m moves m′
-      → length moves + members m′ ≤ members m
+      → length moves + memberCount m′ ≤ memberCount m
   unfolding Replays
-  replays-shrinks m [] m′ sound e = omega (arith, ap members e)
+  replays-shrinks m [] m′ sound e = omega (arith, ap memberCount e)
   replays-shrinks m (cells ∷ moves) m′ sound r =
       let f : LegalCells most n m cells = r .0 in
       omega (

@@ -8,7 +8,8 @@ use native.Mathlib.Nat.{add-zero, mul-zero}
 use native.Mathlib.Omega.{arith}
 use lib.Bits.{bitXor, xor-comm}
 use lib.ListN.{length}
-use Rattle.circuit.specs.OddSet.{members}
+use Rattle.circuit.proofs.OddSet.{members-sum}
+use Rattle.circuit.specs.OddSet.{memberCount}
 use Rattle.circuit.specs.Sound.{SoundMarks, weight}
 use Rattle.gf2.proofs.Pairing.{pairs-drop, sum-delta, sum-stop, xor-equal}
 use Rattle.gf2.proofs.Sum.{delta-other, delta-same, sum-add, sum-le}
@@ -22,11 +23,10 @@ use Rattle.moves.specs.CarryOut.{carryOut}
 use Rattle.moves.specs.Move.{Legal, Separates}
 
 pub members-below : (size n : ℕ) (marks : List ℕ) → 2 ^ n ≤ size → SoundMarks size n marks
-    → members marks ≡ sum (2 ^ n) (λ p. weight marks p)
-unfolding members
+    → memberCount marks ≡ sum (2 ^ n) (λ p. weight marks p)
 members-below size n marks room s =
     let e : length marks ≡ size = s .long in
-    sum-stop (2 ^ n) (length marks) (λ p. weight marks p) (omega arith) (s .high)
+    members-sum marks (s .bits) ∙ sum-stop (2 ^ n) (length marks) (λ p. weight marks p) (omega arith) (s .high)
 
 -- on a pair p, p xor z with marks m, m′, of which Y has o, o′
 pair-le : (m m′ o o′ : ℕ) → m < 2 → m′ < 2 → o ≤ m → o′ ≤ m′ → (m + (o + o′)) % 2 + (m′ + (o′ + o)) % 2 ≤ m + m′
@@ -99,7 +99,7 @@ module _ (size n most : ℕ) (room : 2 ^ n ≤ size) (marks : List ℕ) (sound :
       go (no ne) (no d) =
           rw (now ne, delta-other p z (λ e. d (sym e)), mul-zero (length Y), add-zero (occ p Y + occ (bitXor p z) Y)) (omega arith)
 
-  pub shrinks : members (carryOut marks z Y) + 1 ≤ members marks
+  pub shrinks : memberCount (carryOut marks z Y) + 1 ≤ memberCount marks
   unfolding m
   shrinks =
       let zl : z < 2 ^ n = z-lt size n most room marks sound z Y legal in

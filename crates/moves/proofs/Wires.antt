@@ -7,6 +7,7 @@ use native.Mathlib.Decide.{decLt}
 use native.Mathlib.Omega.{arith}
 use lib.ListN.{getD}
 use lib.Pow.{pow-mono}
+use Rattle.circuit.specs.OddSet.{Member}
 use Rattle.circuit.specs.Sound.{SoundMarks}
 use Rattle.gf2.proofs.Leading.{bit-beyond}
 use Rattle.gf2.proofs.Over.{sumOver-none}
@@ -14,7 +15,7 @@ use Rattle.gf2.specs.Bit.{bit}
 use Rattle.gf2.specs.Over.{Below, sumOver}
 use Rattle.moves.proofs.Keep.{member-lt, separated-lt}
 use Rattle.moves.specs.Log.{LegalCells}
-use Rattle.moves.specs.Move.{Balanced, Legal, Member, Separates, triple}
+use Rattle.moves.specs.Move.{Balanced, Legal, Separates, triple}
 use Rattle.moves.specs.Sets.{In}
 
 pub sound-wires : (size n N : ℕ) (marks : List ℕ) → n ≤ N → SoundMarks size n marks → SoundMarks size N marks

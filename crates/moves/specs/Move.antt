@@ -5,14 +5,10 @@ use mathlib.Core.Path.{_≡_}
 use Prim.Native.Nat.{_%_, _*_, _+_, _<_, _≤_, ℕ}
 use lib.Bits.{bitXor}
 use lib.ListN.{length}
-use Rattle.circuit.specs.Sound.{weight}
+use Rattle.circuit.specs.OddSet.{Member}
 use Rattle.gf2.specs.Bit.{bit}
 use Rattle.gf2.specs.Over.{sumOver, xorAll}
 use Rattle.moves.specs.Sets.{Ascending, In}
-
--- members are the parities marked 1
-abbrev pub Member : List ℕ → ℕ → Type 0
-Member marks p = weight marks p ≡ 1
 
 -- z is a XOR b for some member a in Y and some member b not in Y
 pub record Separates (marks : List ℕ) (z : ℕ) (Y : List ℕ) : Type 0 where

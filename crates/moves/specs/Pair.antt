@@ -5,11 +5,12 @@ use mathlib.Core.Path.{_≡_}
 use Prim.Native.Nat.{_+_, _<_, _^_, _≤_, suc, zero, ℕ}
 use lib.Bits.{bitXor}
 use lib.ListN.{getD, length, replicate}
+use Rattle.circuit.specs.OddSet.{Member}
 use Rattle.gf2.specs.Bit.{bit}
 use Rattle.gf2.specs.Over.{xorAll}
 use Rattle.moves.specs.CarryOut.{flip, flipIf}
 use Rattle.moves.specs.Kappa.{kappa}
-use Rattle.moves.specs.Move.{Legal, Member}
+use Rattle.moves.specs.Move.{Legal}
 use Rattle.moves.specs.Sets.{Ascending, In, listed}
 
 -- there is a legal move with a in Y and b not in Y

@@ -3,7 +3,7 @@
 use mathlib.Core.List.{List}
 use mathlib.Core.Logic.{_↔_}
 use mathlib.Core.Path.{_≡_}
-use Prim.Native.Nat.{_^_, ℕ, _≤_}
+use Prim.Native.Nat.{_<_, _^_, ℕ, _≤_}
 use Rattle.circuit.specs.OddSet.{oddSet}
 use Rattle.circuit.specs.Says.{phaseAt}
 use Rattle.circuit.specs.Sound.{SoundMarks, SoundWeights}
@@ -13,9 +13,9 @@ use Rattle.phase.proofs.Lists.{marks-weights, odd-sound}
 use Rattle.phase.proofs.NewWeights.{new-oddSet, new-phases, new-shape, new-sound}
 use Rattle.phase.proofs.Signature.{oddSet-sums, signature-iff}
 use Rattle.phase.proofs.Sums.{SameSums, signature-sums}
-use Rattle.phase.proofs.Unique.{new-unique}
+use Rattle.phase.proofs.Unique.{added-is, new-unique}
 use Rattle.phase.specs.Coefficients.{SameAtThree, SameCoefficients, SamePhases, byCoefficients}
-use Rattle.phase.specs.NewWeights.{MarksAndRest, newWeights}
+use Rattle.phase.specs.NewWeights.{MarksAndRest, newWeights, rest}
 use Rattle.phase.specs.Signature.{EvenApart, SameSignature}
 
 -- (a) the phase is the sum of l, 2 q and 4 c over the wires, pairs and triples set in x, modulo 8: of every list, at every x
@@ -66,7 +66,13 @@ module _ (size n : ℕ) (room : 2 ^ n ≤ size) where
       pub new-weights-shape : MarksAndRest n marks (newWeights size n w marks)
       new-weights-shape = new-shape size n room w marks sound sums
 
-    -- (e) the rest is unique: sound weights of that shape with the phases of w are these
+    -- (e) this rest is unique: whatever even rest of document 01's shape is added to the marks so that the phases are those of w, it is
+    -- `rest` at every parity
+    pub rest-unique : (v : List ℕ) → SoundWeights size n v → (s : MarksAndRest n marks v) → SamePhases n v w
+        → (p : ℕ) → p < 2 ^ n → s .added p ≡ rest n w marks p
+    rest-unique v = added-is size n room w marks v (marks-weights size n marks sound)
+
+    -- so the sound weights of that shape with the phases of w are these
     pub new-weights-unique : (v : List ℕ) → SoundWeights size n v → MarksAndRest n marks v → SamePhases n v w
         → v ≡ newWeights size n w marks
     new-weights-unique v = new-unique size n room w marks v (marks-weights size n marks sound)

@@ -88,8 +88,8 @@ module _ (size n : ℕ) (room : 2 ^ n ≤ size) (w marks v : List ℕ) (sm : Sou
       (added-l n v marks (shape .added) wv wm (shape .is) few i h ∙ rw (pairs-same i h)) (back-l n v w at-three i h)
       ∙ sym (rest-one w marks n i h)
 
-  -- two numbers are equal where their distance is 0
-  added-is : (p : ℕ) → p < 2 ^ n → shape .added p ≡ rest n w marks p
+  -- the rest itself; two numbers are equal where their distance is 0
+  pub added-is : (p : ℕ) → p < 2 ^ n → shape .added p ≡ rest n w marks p
   unfolding ones onesIn
   added-is p h =
       equal (shape .added p) (rest n w marks p)

@@ -8,13 +8,13 @@ use native.Mathlib.Nat.{le-refl}
 use native.Mathlib.Omega.{arith}
 use lib.ListN.{getD, length, length-append}
 use lib.Pow.{pow-mono}
-use Rattle.circuit.proofs.OddSet.{length-odd, odd-mark}
+use Rattle.circuit.proofs.OddSet.{length-odd, members-sum, odd-bits, odd-mark}
 use Rattle.circuit.proofs.Sound.{read-append, start-sound}
 use Rattle.circuit.specs.Faults.{AllWellFormed}
 use Rattle.circuit.specs.Gate.{Gate, T, T-dagger, kindOf, tGates}
 use Rattle.circuit.specs.Lent.{readingLent}
 use Rattle.circuit.specs.Limits.{writtenGates}
-use Rattle.circuit.specs.OddSet.{members, oddSet}
+use Rattle.circuit.specs.OddSet.{memberCount, oddSet}
 use Rattle.circuit.specs.Read.{firstRows, read, readFrom, start, withWeights}
 use Rattle.circuit.specs.Sound.{SoundRows, SoundWeights, weight}
 use Rattle.gf2.proofs.Pairing.{sum-stop}
@@ -74,15 +74,15 @@ module _ (N n : ℕ) (fit : n ≤ N) (w rows : List ℕ) (sw : SoundWeights (2 ^
       ∙ sym (sum-stop (2 ^ n) (length w) f (omega (arith, sw .long)) (λ p l. ap (λ (x : ℕ). occurs kind (spelling x)) (sw .high p l)))
 
   -- one T or T dagger for an odd weight, none for an even one
-  t-gates : tGates gs ≡ members (oddSet w)
-  unfolding spelledGates members kindOf
+  t-gates : tGates gs ≡ memberCount (oddSet w)
+  unfolding spelledGates kindOf
   t-gates =
       let f : ℕ → ℕ = λ p. occurs T (spelling (weight w p)) in
       let g : ℕ → ℕ = λ p. occurs T-dagger (spelling (weight w p)) in
       t-by-kind gs ∙ ap₂ _+_ (kinds T 1 refl) (kinds T-dagger 7 refl) ∙ sym (sum-add (length w) f g)
       ∙ sum-ext (length w) (λ p. f p + g p) (λ p. getD (oddSet w) p 0)
       (λ p l. occurs-odd (weight w p) (sw .small p) ∙ sym (odd-mark w p))
-      ∙ ap (λ (k : ℕ). sum k (λ p. getD (oddSet w) p 0)) (sym (length-odd w))
+      ∙ ap (λ (k : ℕ). sum k (λ p. getD (oddSet w) p 0)) (sym (length-odd w)) ∙ sym (members-sum (oddSet w) (odd-bits w))
 
   pub list-written : Wrote N n (readingLent w rows) (writeList N n w rows)
   unfolding gs

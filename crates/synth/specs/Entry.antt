@@ -10,7 +10,7 @@ use Rattle.circuit.specs.Faults.{Accepted, AllWellFormed, callReply}
 use Rattle.circuit.specs.Gate.{Gate, kindOf, tGates}
 use Rattle.circuit.specs.Lent.{KeptFrom, frontGates, readingLent}
 use Rattle.circuit.specs.Limits.{gateBytes, maxWires, writtenGates}
-use Rattle.circuit.specs.OddSet.{members, oddSet}
+use Rattle.circuit.specs.OddSet.{memberCount, oddSet}
 use Rattle.circuit.specs.Read.{Reading, read, start}
 use Rattle.circuit.specs.Sound.{weight}
 use Rattle.circuit.specs.declared.Reply.{Reply}
@@ -50,7 +50,7 @@ pub record Wrote (N n : ℕ) (r : Reading) (gs : List Gate) : Type 0 where
   -- so there are as many gates of each kind of phase gate as the spellings of all weights have
   pub kinds : (kind v : ℕ) → kindOf kind ≡ Phase v → gatesOfKind kind gs ≡ spelledGates kind (r .weights)
   -- and as many T and T dagger gates as the odd set has members
-  pub t-gates : tGates gs ≡ members (oddSet (r .weights))
+  pub t-gates : tGates gs ≡ memberCount (oddSet (r .weights))
 
 -- ---- the lent gates
 

@@ -8,9 +8,9 @@ use lib.ListN.{getD, length}
 use Rattle.circuit.proofs.Bytes.{gates-step, gates-tail, gatesFrom}
 use Rattle.circuit.specs.Gate.{T, T-dagger, isT, tGates}
 use Rattle.circuit.specs.Limits.{gateBytes}
-use Rattle.circuit.specs.OddSet.{members}
+use Rattle.circuit.specs.OddSet.{memberCount}
 use Rattle.gf2.proofs.Sum.{delta-other, sum-suc}
-use Rattle.gf2.specs.Sum.{sum}
+use Rattle.gf2.specs.Sum.{delta, sum}
 
 pub t-next : (bytes : List ℕ) (i : ℕ) → gateBytes * i + 2 < length bytes
     → tGates (gatesFrom bytes i) ≡ isT (getD bytes (gateBytes * i) 0) + tGates (gatesFrom bytes (i + 1))
@@ -25,10 +25,11 @@ pub is-t-other : (kind : ℕ) → kind ≢ T → kind ≢ T-dagger → isT kind 
 unfolding isT
 is-t-other kind a b = rw (delta-other T kind a, delta-other T-dagger kind b)
 
-pub members-next : (marks : List ℕ) (p count x : ℕ) → count ≡ sum p (λ p. getD marks p 0) → x ≡ getD marks p 0
-    → count + x ≡ sum (p + 1) (λ p. getD marks p 0)
-members-next marks p count x e f = rw (add-one p, sum-suc p (λ p. getD marks p 0), e, f)
+pub members-next : (marks : List ℕ) (p count x : ℕ) → count ≡ sum p (λ p. delta 1 (getD marks p 0)) → x ≡ delta 1 (getD marks p 0)
+    → count + x ≡ sum (p + 1) (λ p. delta 1 (getD marks p 0))
+members-next marks p count x e f = rw (add-one p, sum-suc p (λ p. delta 1 (getD marks p 0)), e, f)
 
-pub members-end : (marks : List ℕ) (p count : ℕ) → length marks ≡ p → count ≡ sum p (λ p. getD marks p 0) → count ≡ members marks
-unfolding members
+pub members-end : (marks : List ℕ) (p count : ℕ) → length marks ≡ p → count ≡ sum p (λ p. delta 1 (getD marks p 0))
+    → count ≡ memberCount marks
+unfolding memberCount
 members-end marks p count h e = rw (h, e)

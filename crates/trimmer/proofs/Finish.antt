@@ -8,7 +8,7 @@ use Rattle.circuit.specs.Entry.{readBytes}
 use Rattle.circuit.specs.Gate.{Gate, gatesOf, tGates}
 use Rattle.circuit.specs.Lent.{KeptFrom, frontGates, readingLent}
 use Rattle.circuit.specs.Limits.{gateBytes, maxMembers, maxWires, moveCells, parities}
-use Rattle.circuit.specs.OddSet.{members, oddSet}
+use Rattle.circuit.specs.OddSet.{memberCount, oddSet}
 use Rattle.circuit.specs.Read.{Reading, read}
 use Rattle.circuit.specs.Sound.{SoundReading, SoundRows, SoundWeights}
 use Rattle.circuit.specs.TableFaults.{Marked}
@@ -108,7 +108,7 @@ module _ {n : ℕ} {bytes out log w rows first : List ℕ} {k : ℕ} {last log�
 
   -- D is written, and all is counted
   pub finish : {out′ : List ℕ} {count : ℕ} → WroteBytes n new rows out out′ count → (counts : Counts) → counts .tin ≡ tGates C
-      → counts .odd ≡ members first → counts .tout ≡ members last → counts .moves ≡ k → counts .gates ≡ count
+      → counts .odd ≡ memberCount first → counts .tout ≡ memberCount last → counts .moves ≡ k → counts .gates ≡ count
       → Done-with n bytes out log out′ log′ counts
   finish {out′} {count} wrote counts tin odd tout moves gates =
       let D : List Gate = frontGates count out′ in
@@ -117,15 +117,15 @@ module _ {n : ℕ} {bytes out log w rows first : List ℕ} {k : ℕ} {last log�
       let wD : weightsOf n D ≡ newWeights parities n (weightsOf n C) last =
       ap (λ (r : Reading). r .weights) (list .reads) ∙ c .new-is ∙ ap (λ (x : List ℕ). newWeights parities n x last) (w-is read-C) in
       let rD : read maxWires n D .rows ≡ read maxWires n C .rows = ap (λ (r : Reading). r .rows) (list .reads) ∙ rows-is read-C in
-      let tD : tGates D ≡ members (oddSetOf n D) =
-      list .t-gates ∙ ap (λ (r : Reading). members (oddSet (r .weights))) (sym (list .reads)) in
+      let tD : tGates D ≡ memberCount (oddSetOf n D) =
+      list .t-gates ∙ ap (λ (r : Reading). memberCount (oddSet (r .weights))) (sym (list .reads)) in
       let written-list : Writes-read n D =
       subst (λ (r : Reading). Wrote maxWires n r D) (sym (list .reads)) list in
       record {
         trimmed =
             subst (λ (j : ℕ). Trimmed n C (frontGates j out′) log′ counts) (sym gates)
             (whole n (accepted .few) C (accepted .formed) log′ k last (replayed (c .moved)) (c .moved .all .none) D (list .formed) wD rD tD
-            counts tin (odd ∙ ap members (first-is (c .moved .marked))) tout moves (gates ∙ wrote .counted));
+            counts tin (odd ∙ ap memberCount (first-is (c .moved .marked))) tout moves (gates ∙ wrote .counted));
         written = subst (λ (j : ℕ). Writes-read n (frontGates j out′)) (sym gates) written-list;
         gates-kept = subst (λ (j : ℕ). KeptFrom (gateBytes * j) out out′) (sym gates) (wrote .kept);
         log-kept = subst (λ (j : ℕ). KeptFrom (moveCells * j) log log′) (sym moves) (c .moved .all .made .kept);

@@ -5,10 +5,11 @@ use Prim.Native.Nat.{_*_, _+_, _-_, _<_, suc, ℕ, _≤_}
 use native.Mathlib.Numerals.{add-one}
 use native.Mathlib.Omega.{arith}
 use lib.ListN.{getD, length}
+use Rattle.circuit.proofs.OddSet.{members-sum}
 use Rattle.circuit.proofs.Placing.{kept-all, kept-placed}
 use Rattle.circuit.specs.Lent.{placed}
 use Rattle.circuit.specs.Limits.{logCells, maxMembers, maxWires, moveCells, parities}
-use Rattle.circuit.specs.OddSet.{members}
+use Rattle.circuit.specs.OddSet.{memberCount}
 use Rattle.circuit.specs.Sound.{SoundMarks}
 use Rattle.circuit.specs.TableFaults.{Marked}
 use Rattle.gf2.proofs.Sum.{sum-const, sum-front, sum-le}
@@ -37,11 +38,10 @@ moved-sound {n} {marks} {cells} {marks′} m f e =
     }
 
 -- fewer members than marks: parity 0 is none
-members-lt : (size n : ℕ) (marks : List ℕ) → 0 < size → SoundMarks size n marks → members marks < size
-unfolding members
+members-lt : (size n : ℕ) (marks : List ℕ) → 0 < size → SoundMarks size n marks → memberCount marks < size
 members-lt size n marks h0 s =
     let e : size ≡ suc (size - 1) = omega arith in
-    rw (s .long, e)
+    rw (members-sum marks (s .bits), s .long, e)
     (omega (
       arith,
       sum-front (size - 1) (λ p. getD marks p 0),
@@ -70,7 +70,7 @@ module _ {n : ℕ} {m before : List ℕ} {k : ℕ} {marks log : List ℕ} (turn 
             (turn .made .replayed);
       }
 
-  afforded : k + members marks ≤ members m
+  afforded : k + memberCount marks ≤ memberCount m
   afforded =
       omega (
         arith,
@@ -81,7 +81,7 @@ module _ {n : ℕ} {m before : List ℕ} {k : ℕ} {marks log : List ℕ} (turn 
 
   -- a legal move: there is room for it in the log, and it makes the odd set smaller
   module _ {cells : List ℕ} (f : LegalCells maxMembers n marks cells) where
-    smaller : members (carryOut marks (f .z) (f .Y)) + 1 ≤ members marks
+    smaller : memberCount (carryOut marks (f .z) (f .Y)) + 1 ≤ memberCount marks
     smaller = move-shrinks parities n maxMembers (limits-suffice n fits .0) marks (still-marked .sound) (f .z) (f .Y) (f .legal)
 
     carried : carryOut marks (zOf cells) (setOf cells) ≡ carryOut marks (f .z) (f .Y)
@@ -94,7 +94,7 @@ module _ {n : ℕ} {m before : List ℕ} {k : ℕ} {marks log : List ℕ} (turn 
     move-room =
         omega (arith, smaller, afforded, members-lt parities n m (omega arith) (turn .first .sound), turn .made .kept .long, turn .room)
 
-    pub move-smaller : {marks′ : List ℕ} → marks′ ≡ carryOut marks (zOf cells) (setOf cells) → members marks′ < members marks
+    pub move-smaller : {marks′ : List ℕ} → marks′ ≡ carryOut marks (zOf cells) (setOf cells) → memberCount marks′ < memberCount marks
     move-smaller e = rw (e ∙ carried) (omega (arith, smaller))
 
     pub cells-long : length cells ≡ moveCells

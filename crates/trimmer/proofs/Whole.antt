@@ -12,7 +12,7 @@ use Rattle.circuit.proofs.Sound.{read-sound}
 use Rattle.circuit.specs.Faults.{AllWellFormed}
 use Rattle.circuit.specs.Gate.{Gate, tGates}
 use Rattle.circuit.specs.Limits.{maxMembers, maxWires, moveCells, parities}
-use Rattle.circuit.specs.OddSet.{members, oddSet}
+use Rattle.circuit.specs.OddSet.{memberCount, oddSet}
 use Rattle.circuit.specs.Read.{read}
 use Rattle.circuit.specs.Run.{SameAction}
 use Rattle.circuit.specs.Says.{endState, phaseAt}
@@ -41,7 +41,7 @@ module _ (n : ℕ) (fit : n ≤ maxWires) (C : List Gate) (fC : AllWellFormed n 
   marks-sound = replays-sound parities n maxMembers (limits-suffice n fit .0) (oddSetOf n C) (logged moveCells log k) marks first replayed
 
   -- moves and members left are no more than the members at first
-  pub moves-afford : k + members marks ≤ members (oddSetOf n C)
+  pub moves-afford : k + memberCount marks ≤ memberCount (oddSetOf n C)
   moves-afford =
       omega (
         arith,
@@ -57,7 +57,7 @@ module _ (n : ℕ) (fit : n ≤ maxWires) (C : List Gate) (fC : AllWellFormed n 
 
   module _ (none : NoneLegal maxMembers n marks) (D : List Gate) (fD : AllWellFormed n D)
       (wD : weightsOf n D ≡ newWeights parities n (weightsOf n C) marks) (rD : read maxWires n D .rows ≡ read maxWires n C .rows)
-      (tD : tGates D ≡ members (oddSetOf n D)) where
+      (tD : tGates D ≡ memberCount (oddSetOf n D)) where
     odd-D : oddSetOf n D ≡ marks
     odd-D = ap oddSet wD ∙ new-weights-odd-set parities n (limits-suffice n fit .0) (weightsOf n C) marks marks-sound same
 
@@ -72,10 +72,10 @@ module _ (n : ℕ) (fit : n ≤ maxWires) (C : List Gate) (fC : AllWellFormed n 
         ∙ ap₂ (λ (b φ : ℕ). record { bits = b; phase = φ }) (ap (λ (rows : List ℕ). endState n rows x) rD) (phases x h)
         ∙ sym (read-runs maxWires n fit C fC x h)
 
-    t-D : tGates D ≡ members marks
-    t-D = tD ∙ ap members odd-D
+    t-D : tGates D ≡ memberCount marks
+    t-D = tD ∙ ap memberCount odd-D
 
-    pub whole : (counts : Counts) → counts .tin ≡ tGates C → counts .odd ≡ members (oddSetOf n C) → counts .tout ≡ members marks
+    pub whole : (counts : Counts) → counts .tin ≡ tGates C → counts .odd ≡ memberCount (oddSetOf n C) → counts .tout ≡ memberCount marks
         → counts .moves ≡ k → counts .gates ≡ length D
         → Trimmed n C D log counts
     whole counts tin odd tout moves gates =

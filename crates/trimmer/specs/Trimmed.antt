@@ -6,7 +6,7 @@ use lib.ListN.{length}
 use Rattle.circuit.specs.Faults.{AllWellFormed}
 use Rattle.circuit.specs.Gate.{Gate, tGates}
 use Rattle.circuit.specs.Limits.{maxMembers, maxWires, moveCells, parities}
-use Rattle.circuit.specs.OddSet.{members, oddSet}
+use Rattle.circuit.specs.OddSet.{memberCount, oddSet}
 use Rattle.circuit.specs.Read.{read}
 use Rattle.circuit.specs.Run.{SameAction}
 use Rattle.moves.specs.Log.{logged}
@@ -30,7 +30,7 @@ pub record Trimmed (n : ℕ) (C D : List Gate) (log : List ℕ) (counts : Counts
   -- D holds exactly the reported number of T and T dagger gates
   pub t-out : counts .tout ≡ tGates D
   -- one for each member of its odd set
-  pub one-each : tGates D ≡ members (oddSetOf n D)
+  pub one-each : tGates D ≡ memberCount (oddSetOf n D)
   -- no more than C holds
   pub no-more : tGates D ≤ tGates C
   -- and no more than (n² + n)/2 + 1
@@ -48,7 +48,7 @@ pub record Trimmed (n : ℕ) (C D : List Gate) (log : List ℕ) (counts : Counts
   pub log-holds : moveCells * counts .moves ≤ length log
   -- and the other reported counts are those of C and D
   pub t-in : counts .tin ≡ tGates C
-  pub odd-size : counts .odd ≡ members (oddSetOf n C)
+  pub odd-size : counts .odd ≡ memberCount (oddSetOf n C)
   pub gates-written : counts .gates ≡ length D
   -- moves plus D's T and T dagger gates are at most the size of C's odd set
-  pub afford : counts .moves + tGates D ≤ members (oddSetOf n C)
+  pub afford : counts .moves + tGates D ≤ memberCount (oddSetOf n C)

@@ -4,7 +4,8 @@ ghost use Prim.Native.Nat.{_<_};
 ghost use lib.ListN.{length};
 ghost use Rattle.circuit.specs.Gate.{isT, tGates, gatesOf};
 ghost use Rattle.circuit.specs.Limits.{tableBytes};
-ghost use Rattle.circuit.specs.OddSet.{members};
+ghost use Rattle.circuit.specs.OddSet.{memberCount};
+ghost use Rattle.gf2.specs.Sum.{delta};
 use circuit::gates::T;
 use circuit::gates::T_DAGGER;
 use circuit::limits::GATE_BYTES;
@@ -36,20 +37,23 @@ fn is_t(kind: u8) -> usize
     }
 }
 
-// How many parities are marked.
+// How many members an odd set has: the parities marked 1.
 pub fn members_of(marks: &[Mark; TABLE_BYTES]) -> usize
     requires { ⌜ length (now marks) ≡ tableBytes ⌝ }
-    ensures { λ r. ⌜ r ≡ members (now (marks .entry)) ⌝ }
+    ensures { λ r. ⌜ r ≡ memberCount (now (marks .entry)) ⌝ }
 {
     let mut count: usize = 0;
     for p in 0..PARITIES {
-        count += wide(marks[p]);
+        count += is_member(marks[p]);
     }
     count
 }
 
-fn wide(x: Mark) -> usize
-    ensures { λ r. ⌜ (r ≡ x) × (x < 256) ⌝ }
+fn is_member(mark: Mark) -> usize
+    ensures { λ r. ⌜ (r ≡ delta 1 mark) × (r < 2) ⌝ }
 {
-    x as usize
+    match mark {
+        1 => 1,
+        _ => 0,
+    }
 }

@@ -4,7 +4,7 @@ use Prim.Native.Nat.{_-_, _≤_}
 use native.Mathlib.Omega.{arith}
 use lib.ListN.{length}
 use borrow.Author.Needs.{needs}
-use Rattle.moves.specs.Move.{Member}
+use Rattle.circuit.specs.OddSet.{Member}
 use Rattle.carry.proofs.Deciding.{Passed, answer-no, answer-yes, denied, granted, passed-all, passed-more, passed-none}
 use Rattle.carry.proofs.legality.are_members.Statement.{statement}
 use Rattle.carry.proofs.legality.are_members.Tie as tie

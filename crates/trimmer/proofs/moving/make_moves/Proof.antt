@@ -5,7 +5,7 @@ use Prim.Native.Nat.{ℕ}
 use native.Mathlib.Omega.{arith}
 use borrow.Author.Needs.{needs}
 use denote.Ref.{now}
-use Rattle.circuit.specs.OddSet.{members}
+use Rattle.circuit.specs.OddSet.{memberCount}
 use Rattle.circuit.specs.TableFaults.{Marked}
 use Rattle.trimmer.proofs.Calls.{next-legal, next-none}
 use Rattle.trimmer.proofs.Making.{Turn, cells-long, few-moves, made-more, made-none, move-room, move-smaller, still-marked}
@@ -17,7 +17,7 @@ abbrev Inv-loop : tie.InvT-loop
 Inv-loop n log₀ s₀ log s = Turn n (s₀ .marks) log₀ (s .count) (s .marks) log × NextMove n (s .marks) (s .found) (s .cells)
 
 abbrev μ-loop : tie.MeasureT-loop
-μ-loop n log₀ s₀ log s = members (s .marks)
+μ-loop n log₀ s₀ log s = memberCount (s .marks)
 
 loop-holds : tie.Need-loop-holds Inv-loop μ-loop
 loop-holds c =
