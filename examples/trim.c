@@ -2,16 +2,16 @@
  *
  * The circuit: T on every parity of four wires but that of wire 0 alone. Fourteen T gates become one T dagger on wire 0.
  *
- * From the repository's root, once `rt staticlib capi` has made the library:
+ * Once Sulmedra is installed (scripts/install):
  *
- *     cc -std=c11 -Iinclude examples/trim.c target/staticlib/libcapi.a -o trim_example
+ *     cc -std=c11 examples/trim.c $(pkg-config --cflags --libs sulmedra) -o trim_example
  */
 #include <inttypes.h>
 #include <stdio.h>
 
 #include "sulmedra.h"
 
-enum { CNOT = 1, T = 2, WIRES = 4, GATE_BYTES = 3, OUT_BYTES = 6336, LOG_BYTES = 10200 };
+enum { CNOT = SULMEDRA_CNOT, T = SULMEDRA_T, WIRES = 4 };
 
 /* Three bytes to a gate: kind, a, b. Beside each T stands the parity that its wire holds there. */
 static const uint8_t circuit[] = {
@@ -36,11 +36,12 @@ static const uint8_t circuit[] = {
     CNOT, 2, 3,
 };
 
+/* By kind; no gate has kind 0. */
 static const char *const names[] = {"", "CNOT", "T", "S", "Z", "S dagger", "T dagger"};
 
 static void print_gate(const uint8_t *gate)
 {
-    if (gate[0] == CNOT)
+    if (gate[0] == SULMEDRA_CNOT)
         printf("%s %d -> %d\n", names[gate[0]], gate[1], gate[2]);
     else
         printf("%s on %d\n", names[gate[0]], gate[1]);
@@ -48,10 +49,10 @@ static void print_gate(const uint8_t *gate)
 
 int main(void)
 {
-    uint8_t out[OUT_BYTES], log[LOG_BYTES];
+    uint8_t out[SULMEDRA_WRITE_BYTES], log[SULMEDRA_LOG_BYTES];
     sulmedra_trimmed trimmed = sulmedra_trim(WIRES, circuit, sizeof circuit, out, sizeof out, log, sizeof log);
 
-    if (trimmed.number != 0) {
+    if (trimmed.number != SULMEDRA_DONE) {
         printf("refused: fault %" PRIu64 ", place %" PRIu64 "\n", trimmed.number, trimmed.place);
         return 1;
     }
@@ -59,8 +60,8 @@ int main(void)
     printf("odd set size: %" PRIu64 "\n", trimmed.odd_size);
     printf("T gates out: %" PRIu64 "\n", trimmed.t_out);
     printf("moves: %" PRIu64 "\n", trimmed.moves);
-    printf("gates: %zu before, %" PRIu64 " after\n", sizeof circuit / GATE_BYTES, trimmed.gates);
+    printf("gates: %zu before, %" PRIu64 " after\n", sizeof circuit / SULMEDRA_GATE_BYTES, trimmed.gates);
     for (size_t k = 0; k < trimmed.gates; k++)
-        print_gate(out + GATE_BYTES * k);
+        print_gate(out + SULMEDRA_GATE_BYTES * k);
     return 0;
 }

@@ -1,11 +1,20 @@
-/* Sulmedra: the proved T-count trimmer. Each function is proved to keep the promise of the entry that it exports (crates/capi).
+/* Sulmedra: the proved T-count trimmer, for C. Each function is proved to keep the promise of the entry that it exports (crates/capi).
+ * docs/RULES.md of the repository tells the rules: gates, weights and rows, marks, moves and logs, the text form, faults.
  *
- * Numbers, bytes and faults are those of document 01. A pointer comes with the number of bytes lent there; it must not be NULL, and a
- * buffer that is written must not overlap another one of the same call. A call reads and writes nothing beyond what it is lent, and
- * keeps no pointer.
+ * Replies. Every call replies: number 0 and place 0 when it is done, else the fault's number and its place (sulmedra_move_at has no
+ * fault). A refusal leaves every lent buffer as it was.
  *
- * Every call replies: number 0 and place 0 when it is done, else the fault's number and its place. A refusal leaves every lent
- * buffer as it was.
+ * Lent bytes. A pointer comes with the number of bytes lent there. Where that number is 0 the pointer is not used, and may be NULL; else
+ * it must point to so many bytes. A call reads and writes nothing beyond what it is lent, and keeps no pointer. A buffer that is written
+ * must not overlap another one of the same call; buffers that are only read may. Outputs need not be set before the call.
+ *
+ * Threads. The library keeps no state: it has constants, and no variable that outlives a call. Calls may run at the same time, as long as
+ * none writes what another one is lent.
+ *
+ * Stack. A thread with SULMEDRA_STACK_BYTES of stack can make every call, whatever the arguments. Measured on threads whose stacks were
+ * painted before (tests/c/test_stack.c): sulmedra_answer takes about 34,200 bytes, every other function about 5,300 at most, and the test
+ * holds the others below 16,384. No call allocates memory or asks anything of the system; of the C library the functions need memcpy,
+ * memmove and memset alone.
  */
 #ifndef SULMEDRA_H
 #define SULMEDRA_H
@@ -17,16 +26,73 @@
 extern "C" {
 #endif
 
+/* The version stands here alone; the pkg-config file takes it from here. */
+#define SULMEDRA_VERSION "0.1.0"
+#define SULMEDRA_VERSION_MAJOR 0
+#define SULMEDRA_VERSION_MINOR 1
+#define SULMEDRA_VERSION_PATCH 0
+
+/* Circuits: wires 0 to 7; a gate is three bytes, kind, a and b. */
+#define SULMEDRA_MAX_WIRES 8
+#define SULMEDRA_MAX_GATES 4096
+#define SULMEDRA_GATE_BYTES 3
+#define SULMEDRA_LIST_BYTES 12288 /* the longest list; what is lent to the text reader at least */
+
+/* Weights, and marks of an odd set: one byte for each parity. Rows: one parity for each wire. */
+#define SULMEDRA_TABLE_BYTES 256
+#define SULMEDRA_ROW_BYTES 8
+
+/* The coefficients of wires, of pairs and of triples of wires. */
+#define SULMEDRA_L_BYTES 8
+#define SULMEDRA_Q_BYTES 64
+#define SULMEDRA_C_BYTES 512
+
+/* A move: z, the number in Y, the members of Y, zeros. A log is lent for the most moves that a trim can make. */
+#define SULMEDRA_MAX_MEMBERS 38
+#define SULMEDRA_MOVE_BYTES 40
+#define SULMEDRA_MAX_MOVES 255
+#define SULMEDRA_LOG_BYTES 10200
+
+/* Written lists: the most gates, and what is lent for them at least. */
+#define SULMEDRA_MAX_WRITTEN_GATES 2112
+#define SULMEDRA_WRITE_BYTES 6336
+
+/* Texts: so many bytes of a text decide its answer; the longest answer, which is what is lent for one at least. */
+#define SULMEDRA_TEXT_BYTES 28676
+#define SULMEDRA_REPLY_BYTES 14807
+
+/* The stack that is enough for every call. */
+#define SULMEDRA_STACK_BYTES 65536
+
+/* The first byte of a gate. A CNOT has control a and target b; the others act on wire a, and b is 0. */
+enum sulmedra_kind {
+    SULMEDRA_CNOT = 1,
+    SULMEDRA_T = 2,
+    SULMEDRA_S = 3,
+    SULMEDRA_Z = 4,
+    SULMEDRA_S_DAGGER = 5,
+    SULMEDRA_T_DAGGER = 6
+};
+
+/* The number of a reply. */
+enum sulmedra_fault {
+    SULMEDRA_DONE = 0,
+    SULMEDRA_FAULT_WIRE_COUNT = 1,  /* the wire count is 0 or above 8 */
+    SULMEDRA_FAULT_LIST_LENGTH = 2, /* the list is no multiple of three bytes, or over 12,288 */
+    SULMEDRA_FAULT_GATE_KIND = 3,   /* a kind is outside 1 to 6 */
+    SULMEDRA_FAULT_GATE_WIRE = 4,   /* a is not below n; or b is not below n in a CNOT, not 0 elsewhere */
+    SULMEDRA_FAULT_SAME_WIRE = 5,   /* a CNOT has a = b */
+    SULMEDRA_FAULT_TABLE_RULE = 6,  /* weights or marks are not 256 bytes, or a byte is against its rule */
+    SULMEDRA_FAULT_ROW_RULE = 7,    /* rows are not 8 bytes, have a bit or a row beyond n, or are not invertible */
+    SULMEDRA_FAULT_LENT_OUTPUT = 8, /* a lent output has another length than it must have, or is too short */
+    SULMEDRA_FAULT_MALFORMED = 9,   /* a line of the text is malformed */
+    SULMEDRA_FAULT_BAD_MOVE = 10    /* the move is not forty bytes, or not legal for these marks */
+};
+
 typedef struct {
     uint64_t number; /* 0, or the number of the fault */
     uint64_t place;  /* the index of the faulty gate, from 0, for faults 3, 4 and 5; else 0 */
 } sulmedra_reply;
-
-typedef struct {
-    uint64_t number; /* 0, or the number of the fault */
-    uint64_t place;  /* 0 */
-    uint64_t gates;  /* the number of gates written, 0 where none are */
-} sulmedra_written;
 
 /* Reads a list of gates on n wires into 256 weights and 8 rows.
  *   gates    three bytes each: kind, a, b; at most 12,288 bytes, any bytes
@@ -47,18 +113,25 @@ sulmedra_reply sulmedra_odd_set(size_t n, const uint8_t *weights, size_t weights
  *   l        8 bytes, written: l(i) at i
  *   q        64 bytes, written: q(i, j) at 8 j + i, for i < j
  *   c        512 bytes, written: c(i, j, k) at 64 k + 8 j + i, for i < j < k
- * Every other byte of the three is written as 0. Checks, in order: 1, 8, 6. */
+ * Every other byte of the three is written as 0. Checks, in order: 1, 8 (l, q or c of another length, as any lent output), 6. */
 sulmedra_reply sulmedra_coefficients(size_t n, const uint8_t *weights, size_t weights_len, uint8_t *l, size_t l_len, uint8_t *q,
                                      size_t q_len, uint8_t *c, size_t c_len);
 
-/* The new weights for the weights of a circuit and an odd set: each member gets 1, and the even rest is added so that the phases are
- * those of the weights, where the odd set has their signature.
+/* The new weights for the weights of a circuit and an odd set with their signature: each member gets 1, and the even rest is added so
+ * that the phases are those of the weights. For marks of another signature the call is done as well: the bytes written are what the same
+ * formula gives, but no weights at all have both these marks as odd set and those phases, and the rules give the bytes no meaning.
  *   weights  256 bytes, as above
  *   marks    256 bytes, each 0 or 1, 0 at parity 0 and from 2^n up
  *   out      256 bytes, written
  * Checks, in order: 1, 8, 6 (weights, then marks). */
 sulmedra_reply sulmedra_new_weights(size_t n, const uint8_t *weights, size_t weights_len, const uint8_t *marks, size_t marks_len,
                                     uint8_t *out, size_t out_len);
+
+typedef struct {
+    uint64_t number; /* 0, or the number of the fault */
+    uint64_t place;  /* 0 */
+    uint64_t gates;  /* the number of gates written, 0 where none are */
+} sulmedra_written;
 
 /* Writes gates on n wires for weights and rows, from the first byte on: reading them gives exactly these weights and rows. At most
  * n * 2^n + n * n gates; every byte after the last gate is as it was. Which CNOTs are used, and the order of parities, are free.
