@@ -4,9 +4,9 @@
 //! names another file to run.
 
 use std::fs::File;
-use std::io::{ErrorKind, Read, Write};
+use std::io::{ErrorKind, PipeWriter, Read, Write};
 use std::path::PathBuf;
-use std::process::{Child, ChildStdin, Command, Stdio};
+use std::process::{Child, ChildStdin, Command, ExitStatus, Stdio};
 use std::sync::mpsc::{channel, Receiver};
 use std::thread;
 use std::time::Duration;
@@ -49,6 +49,34 @@ pub fn run_on_file(path: &str) -> Vec<u8> {
     finish(start(Stdio::from(file)))
 }
 
+/// How a run ended: what reached its output, where that is a pipe of ours, and its error output, and its status.
+pub struct Ended {
+    pub printed: Vec<u8>,
+    pub complaint: String,
+    pub status: ExitStatus,
+}
+
+/// Runs the program from a shell, which does `first`, such as `exec >&-`, and then becomes the program.
+pub fn run_after(first: &str, input: Stdio, output: Stdio) -> Ended {
+    let mut shell = Command::new("sh");
+    shell.arg("-c").arg(format!("{first}\nexec \"$0\"")).arg(program());
+    let child = shell.stdin(input).stdout(output).stderr(Stdio::piped()).spawn();
+    ended(child.expect("there is a shell"))
+}
+
+/// The writing end of a pipe that nobody reads any more.
+pub fn unread_pipe() -> PipeWriter {
+    let (reader, mut writer) = io::pipe().expect("the system has pipes");
+    drop(reader);
+    // A process that another test has just started may hold the reading end for a moment longer.
+    loop {
+        match writer.write_all(b" ") {
+            Err(error) if error.kind() == ErrorKind::BrokenPipe => return writer,
+            written => written.expect("a pipe takes what is written until nobody reads it"),
+        }
+    }
+}
+
 fn start(input: Stdio) -> Child {
     let path = program();
     let child = Command::new(&path).stdin(input).stdout(Stdio::piped()).stderr(Stdio::piped()).spawn();
@@ -79,8 +107,15 @@ fn feed(mut input: ChildStdin, pieces: &[&[u8]], pause: Duration) -> Option<Chil
 }
 
 /// All of the output of a program that ends by itself, with status 0 and nothing on its error output.
-fn finish(mut child: Child) -> Vec<u8> {
-    let output = all_of(child.stdout.take().expect("the output is a pipe"));
+fn finish(child: Child) -> Vec<u8> {
+    let Ended { printed, complaint, status } = ended(child);
+    assert!(status.success(), "ended with {status}");
+    assert!(complaint.is_empty(), "on the error output: {complaint:?}");
+    printed
+}
+
+fn ended(mut child: Child) -> Ended {
+    let output = child.stdout.take().map_or_else(|| all_of(io::empty()), all_of);
     let errors = all_of(child.stderr.take().expect("the error output is a pipe"));
     let printed = output.recv_timeout(PATIENCE);
     let Ok((printed, complaint)) = printed.and_then(|printed| Ok((printed, errors.recv_timeout(PATIENCE)?))) else {
@@ -88,11 +123,11 @@ fn finish(mut child: Child) -> Vec<u8> {
         child.wait().expect("the program has ended");
         panic!("the program runs on");
     };
-    let status = child.wait().expect("the program has ended");
-    assert!(status.success(), "ended with {status}");
-    let complaint = complaint.expect("the error output can be read");
-    assert!(complaint.is_empty(), "on the error output: {:?}", String::from_utf8_lossy(&complaint));
-    printed.expect("the output can be read")
+    Ended {
+        printed: printed.expect("the output can be read"),
+        complaint: String::from_utf8_lossy(&complaint.expect("the error output can be read")).into_owned(),
+        status: child.wait().expect("the program has ended"),
+    }
 }
 
 /// Reads a stream to its end, beside whatever else goes on.

@@ -1,13 +1,19 @@
 //! Whole replies to texts, by the C function and by the program, held against the reference (`comparison::answering`
 //! asks for all that shows in what is printed). Texts go to the C function by thousands, to the program by hundreds.
 
+use std::fs::{self, File};
+use std::io::Write;
+use std::os::fd::OwnedFd;
+use std::os::unix::net::UnixStream;
+use std::os::unix::process::ExitStatusExt;
+use std::process::Stdio;
 use std::time::Duration;
 
 use sulmedra_reference::comparison::answering::{answer, answer_and_trim, answer_into};
 use sulmedra_reference::faults::Fault;
 use sulmedra_reference::gates::{GATE_BYTES, MOST_GATES};
 use sulmedra_reference::printing::{Printed, READ_BYTES, REPLY_BYTES};
-use sulmedra_reference::program::{run, run_on_file, run_on_pieces, run_without_end};
+use sulmedra_reference::program::{run, run_after, run_on_file, run_on_pieces, run_without_end, unread_pipe, Ended};
 use sulmedra_reference::random::{circuit, marks, rows, weights, Random};
 use sulmedra_reference::reading::read;
 use sulmedra_reference::text::write;
@@ -352,6 +358,84 @@ fn texts_from_files() {
     let folder = concat!(env!("CARGO_MANIFEST_DIR"), "/../examples/");
     assert_eq!(run_on_file(&format!("{folder}fourteen.txt")), include_bytes!("../../examples/fourteen.out"));
     assert_eq!(run_on_file("/dev/null"), b"refused 09 0001\n");
+}
+
+const FOURTEEN: &str = concat!(env!("CARGO_MANIFEST_DIR"), "/../examples/fourteen.txt");
+const FOURTEEN_PRINTED: &str = include_str!("../../examples/fourteen.out");
+
+/// The example of fourteen T gates as input, in a shell that does `first` before it becomes the program.
+fn fourteen_after(first: &str, output: Stdio) -> Ended {
+    run_after(first, Stdio::from(File::open(FOURTEEN).expect("the example is there")), output)
+}
+
+/// The program ended by itself: with status 0, and with these on its output and its error output.
+fn by_itself(ended: Ended, printed: &str, complaint: &str, case: &str) {
+    assert_eq!((shown(&ended.printed).as_str(), ended.complaint.as_str()), (printed, complaint), "{case}");
+    assert_eq!((ended.status.code(), ended.status.signal()), (Some(0), None), "{case}");
+}
+
+/// The manual's diagnostics, word for word. Nothing is printed for an input that cannot be read.
+#[test]
+fn streams_that_fail() {
+    for (first, printed, complaint) in [
+        ("", FOURTEEN_PRINTED, ""),
+        ("exec < /", "", "trim: standard input: Is a directory\n"),
+        ("exec <&-", "", "trim: standard input: Bad file descriptor\n"),
+        ("exec > /dev/full", "", "trim: standard output: No space left on device\n"),
+        ("exec >&-", "", "trim: standard output: Bad file descriptor\n"),
+        ("exec < / 2> /dev/full", "", ""),
+        ("exec > /dev/full 2>&-", "", ""),
+    ] {
+        by_itself(fourteen_after(first, Stdio::piped()), printed, complaint, first);
+    }
+}
+
+/// The example, then a read that fails because no more has come yet: a part of a circuit is not taken for the whole.
+#[test]
+fn a_read_that_fails_after_some_bytes() {
+    let (mut ours, theirs) = UnixStream::pair().expect("the system has sockets");
+    theirs.set_nonblocking(true).expect("reads need not wait");
+    ours.write_all(&fs::read(FOURTEEN).expect("the example is there")).expect("there is room");
+    let ended = run_after("", Stdio::from(OwnedFd::from(theirs)), Stdio::piped());
+    by_itself(ended, "", "trim: standard input: Resource temporarily unavailable\n", "no more bytes yet");
+}
+
+/// Output that nobody reads: SIGPIPE, signal 13, ends the program in silence; if it is ignored, standard error tells.
+#[test]
+fn a_pipe_that_nobody_reads() {
+    let ended = fourteen_after("", Stdio::from(unread_pipe()));
+    assert_eq!((ended.status.code(), ended.status.signal()), (None, Some(13)));
+    assert_eq!(ended.complaint, "");
+    let ended = fourteen_after("trap '' PIPE", Stdio::from(unread_pipe()));
+    by_itself(ended, "", "trim: standard output: Broken pipe\n", "SIGPIPE ignored");
+}
+
+/// A file that may not grow as long as the reply has its first part, and standard error tells.
+#[test]
+fn a_reply_that_is_cut_off() {
+    let mut random = Random::new(320);
+    let text = write(8, &fast::write(8, &weights(&mut random, 8), &rows(&mut random, 8)));
+    let due = run(&text);
+    assert!(due.len() > 1024, "{} bytes", due.len());
+    let folder = env!("CARGO_TARGET_TMPDIR");
+    let (input, output) = (format!("{folder}/long.txt"), format!("{folder}/cut_off.txt"));
+    fs::write(&input, &text).expect("the folder is there");
+    let into = |path: &str| Stdio::from(File::create(path).expect("the folder is there"));
+    let from = || Stdio::from(File::open(&input).expect("it was just written"));
+    let ended = run_after("trap '' XFSZ\nulimit -f 1", from(), into(&output));
+    by_itself(ended, "", "trim: standard output: File too large\n", "one block");
+    let part = fs::read(&output).expect("the program has written it");
+    assert!((1..due.len()).contains(&part.len()), "{} of {} bytes", part.len(), due.len());
+    assert_eq!(shown(&part), shown(&due[..part.len()]));
+    by_itself(run_after("trap '' XFSZ", from(), into(&output)), "", "", "no limit");
+    assert_eq!(fs::read(&output).expect("the program has written it"), due);
+}
+
+/// Arguments and options are ignored.
+#[test]
+fn arguments() {
+    let ended = fourteen_after("exec \"$0\" --help examples", Stdio::piped());
+    by_itself(ended, FOURTEEN_PRINTED, "", "--help");
 }
 
 /// What was printed, without its second line, is a text again. Trimmed once more it is left alone.
