@@ -179,8 +179,8 @@ pub extern "C" fn sulmedra_trim(
     out: &mut [u8],
     log: &mut [MoveCell],
 ) -> SulmedraTrimmed
-    ensures { λ r. ⌜ TrimInC (trim.TrimList n (now (gates .entry)) (now (out .entry)) (now (log .entry)) (now (out .exit)) (now (log .exit)))
-        (r .number) (r .place) (r .tin) (r .odd) (r .tout) (r .moves) (r .gates) ⌝ }
+    ensures { λ r. ⌜ TrimInC (trim.TrimList n (now (gates .entry)) (now (out .entry)) (now (log .entry)) (now (out .exit))
+        (now (log .exit))) (r .number) (r .place) (r .tin) (r .odd) (r .tout) (r .moves) (r .gates) ⌝ }
 {
     trimmed_in_c(trimmer::trim(n, gates, out, log))
 }
@@ -215,13 +215,15 @@ pub extern "C" fn sulmedra_read_text(text: &[u8], gates: &mut [u8]) -> SulmedraT
 // `answer::answer`.
 #[no_mangle]
 pub extern "C" fn sulmedra_answer(text: &[u8], out: &mut [u8]) -> SulmedraAnswered
-    ensures { λ r. ⌜ AnswerInC (answers.AnswerText (now (text .entry)) (now (out .entry)) (now (out .exit))) (r .number) (r .place) (r .bytes) ⌝ }
+    ensures { λ r. ⌜ AnswerInC (answers.AnswerText (now (text .entry)) (now (out .entry)) (now (out .exit)))
+        (r .number) (r .place) (r .bytes) ⌝ }
 {
     answered_in_c(answer::answer(text, out))
 }
 
 fn answered_in_c(reply: Answered) -> SulmedraAnswered
-    ensures { λ r. ⌜ (r .number ≡ numberOf (answers.told reply)) × (r .place ≡ placeOf (answers.told reply)) × (r .bytes ≡ answers.bytesOf reply) ⌝ }
+    ensures { λ r. ⌜ (r .number ≡ numberOf (answers.told reply)) × (r .place ≡ placeOf (answers.told reply))
+        × (r .bytes ≡ answers.bytesOf reply) ⌝ }
 {
     match reply {
         Answered::Done { bytes } => SulmedraAnswered {
@@ -238,8 +240,8 @@ fn answered_in_c(reply: Answered) -> SulmedraAnswered
 }
 
 fn text_in_c(reply: TextReply) -> SulmedraText
-    ensures { λ r. ⌜ (r .number ≡ numberOf (read_text.told reply)) × (r .place ≡ placeOf (read_text.told reply)) × (r .wires ≡ read_text.wiresOf reply)
-        × (r .gates ≡ read_text.countOf reply) ⌝ }
+    ensures { λ r. ⌜ (r .number ≡ numberOf (read_text.told reply)) × (r .place ≡ placeOf (read_text.told reply))
+        × (r .wires ≡ read_text.wiresOf reply) × (r .gates ≡ read_text.countOf reply) ⌝ }
 {
     match reply {
         TextReply::Done { n, gates } => SulmedraText {
@@ -280,7 +282,8 @@ fn found_in_c(reply: Finding) -> SulmedraFound
 }
 
 fn written_in_c(reply: Written) -> SulmedraWritten
-    ensures { λ r. ⌜ (r .number ≡ numberOf (write.told reply)) × (r .place ≡ placeOf (write.told reply)) × (r .gates ≡ write.countOf reply) ⌝ }
+    ensures { λ r. ⌜ (r .number ≡ numberOf (write.told reply)) × (r .place ≡ placeOf (write.told reply))
+        × (r .gates ≡ write.countOf reply) ⌝ }
 {
     match reply {
         Written::Done { count } => SulmedraWritten {

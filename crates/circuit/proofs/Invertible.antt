@@ -77,7 +77,8 @@ module _ (n : ℕ) (rows : List ℕ) where
         go : (u : ℕ) → u ≢ 0 → u < 2 ^ suc n → Dec (u % 2 ≡ 0) → bitXor (u % 2 * 2 ^ j) (combine (u / 2) rows) ≡ 0
             → 2 ^ j ≡ combine (u / 2) rows
         go u ne l (yes even) e =
-            absurd (free (u / 2) (omega arith) (omega arith) (sym (xor-equal (u % 2 * 2 ^ j) (combine (u / 2) rows) e) ∙ rw even (omega arith)))
+            let none : combine (u / 2) rows ≡ 0 = sym (xor-equal (u % 2 * 2 ^ j) (combine (u / 2) rows) e) ∙ rw even (omega arith) in
+            absurd (free (u / 2) (omega arith) (omega arith) none)
         go u ne l (no odd) e =
             let one : u % 2 ≡ 1 = omega arith in
             let same : 1 * 2 ^ j ≡ combine (u / 2) rows = rw one at (xor-equal (u % 2 * 2 ^ j) (combine (u / 2) rows) e) in

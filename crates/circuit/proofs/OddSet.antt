@@ -73,7 +73,8 @@ odds-change w q v h =
 
 -- an odd phase added to one weight moves the size of the odd set by exactly one
 pub odd-moves : (w : List ℕ) (q v : ℕ) → q < length w → v % 2 ≡ 1
-    → (memberCount (oddSet (addAt 8 w q v)) ≡ memberCount (oddSet w) + 1) ⊎ (memberCount (oddSet w) ≡ memberCount (oddSet (addAt 8 w q v)) + 1)
+    → (memberCount (oddSet (addAt 8 w q v)) ≡ memberCount (oddSet w) + 1)
+    ⊎ (memberCount (oddSet w) ≡ memberCount (oddSet (addAt 8 w q v)) + 1)
 odd-moves w q v h o =
     rw (members-odds w, members-odds (addAt 8 w q v)) (moved (odds w) (odds (addAt 8 w q v)) (getD w q 0) v (odds-change w q v h) o)
 

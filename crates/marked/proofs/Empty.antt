@@ -70,5 +70,5 @@ module _ {C D : List Gate} {log : List ℕ} {counts : Counts} (nothing : Nothing
 
     pub nothing-counted : counts ≡ noCounts
     nothing-counted =
-        all-none counts (t .t-in ∙ nothing .no-t) (t .odd-size ∙ nothing .no-odd) (omega (arith, t .t-out, t .no-more, nothing .no-t)) no-moves
-        (t .gates-written ∙ ap length no-gates)
+        all-none counts (t .t-in ∙ nothing .no-t) (t .odd-size ∙ nothing .no-odd)
+        (omega (arith, t .t-out, t .no-more, nothing .no-t)) no-moves (t .gates-written ∙ ap length no-gates)
