@@ -7,13 +7,13 @@ use native.Mathlib.Nat.{zero-add}
 use native.Mathlib.Omega.{arith}
 use lib.ListN.{getD, length}
 use Rattle.circuit.proofs.Invertible.{distinct-independent, independent-distinct}
-use Rattle.circuit.proofs.Judging.{done-list, first-refused, lent-pass, lent-well, list-done, list-number}
+use Rattle.circuit.proofs.Judging.{call-number, done-list, first-refused, lent-pass, lent-well, list-done, list-number}
 use Rattle.circuit.proofs.Judging.{or-pass, or-well, refused-first, zero-done}
 use Rattle.circuit.proofs.OddSet.{odd-set-at-most-t, t-moves-one}
 use Rattle.circuit.proofs.ReadRuns.{read-runs}
 use Rattle.circuit.proofs.Sound.{read-sound}
 use Rattle.circuit.specs.Entry.{ReadList, numberOf, readBytes, readLent, readReply}
-use Rattle.circuit.specs.Faults.{Accepted, AllWellFormed, FirstFault, WellFormed, firstFault, lentFault}
+use Rattle.circuit.specs.Faults.{Accepted, AllWellFormed, FirstFault, WellFormed, callReply, firstFault, lentFault}
 use Rattle.circuit.specs.Gate.{Gate, gate, gatesOf, isT, tGates}
 use Rattle.circuit.specs.Lent.{readingLent}
 use Rattle.circuit.specs.Limits.{logCells, maxGates, maxListBytes, maxMembers, maxWires, maxWrittenGates, moveCells, productBits}
@@ -86,7 +86,10 @@ fault-is-unique n gs f i g j a b =
     let p : 0 + i ≡ 0 + j = cc in
     (cc, omega arith)
 
--- number 0 says done, and nothing else does
+-- number 0 says done, and nothing else does: of `read`, and of every call whose faults have place 0
+pub call-reply-number : (f : ℕ) → (numberOf (callReply f) ≡ 0) ↔ (callReply f ≡ Done)
+call-reply-number f = (zero-done (callReply f) (λ number place. call-number f), λ e. ap numberOf e)
+
 pub read-number : (n : ℕ) (bytes : List ℕ) (weights rows : ℕ)
     → (numberOf (readReply n bytes weights rows) ≡ 0) ↔ (readReply n bytes weights rows ≡ Done)
 read-number n bytes weights rows = (
