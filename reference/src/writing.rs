@@ -1,8 +1,8 @@
 //! What must hold of a written list (demand 2, and document 01, "The new weights"), and a plain list for given weights.
 
 use crate::faults;
-use crate::gates::{gates_of, CNOT, GATE_BYTES, S, S_DAGGER, T, T_DAGGER, Z};
-use crate::reading::{self, Reading, Weights};
+use crate::gates::{CNOT, GATE_BYTES, S, S_DAGGER, T, T_DAGGER, Z};
+use crate::reading::{self, PhaseGate, Reading, Weights};
 
 /// The fewest bytes that may be lent for a written list.
 pub const WRITTEN_BYTES: usize = 6336;
@@ -36,21 +36,36 @@ pub fn check_written(n: usize, wanted: &Reading, list: &[u8]) -> Result<(), Stri
     if gates > most_written(n) {
         return Err(format!("{gates} gates on {n} wires"));
     }
-    for kind in [T, S, Z, S_DAGGER, T_DAGGER] {
-        let written = gates_of(list).filter(|gate| gate.kind == kind).count();
-        let spelled =
-            wanted.weights.iter().flat_map(|weight| spelling(*weight)).filter(|other| **other == kind).count();
-        if written != spelled {
-            return Err(format!("{written} gates of kind {kind}, and the weights spell {spelled}"));
+    let (phases, rows) = reading::phase_gates(n, list);
+    check_spelled(wanted, &phases)?;
+    check_same(wanted, &Reading { weights: reading::weights_of(&phases), rows })
+}
+
+/// The gates that add their phase at a parity are, in order, those that spell its weight, next to each other on one wire.
+fn check_spelled(wanted: &Reading, phases: &[PhaseGate]) -> Result<(), String> {
+    let mut here: Vec<Vec<PhaseGate>> = vec![Vec::new(); wanted.weights.len()];
+    for gate in phases {
+        here[gate.parity].push(*gate);
+    }
+    for (p, (gates, weight)) in here.iter().zip(&wanted.weights).enumerate() {
+        let kinds: Vec<u8> = gates.iter().map(|gate| gate.kind).collect();
+        if kinds != spelling(*weight) {
+            return Err(format!("weight {weight} of parity {p} is spelled as {kinds:?}"));
+        }
+        if gates.windows(2).any(|two| two[1].index != two[0].index + 1 || two[1].wire != two[0].wire) {
+            return Err(format!("the gates at parity {p} stand apart: {gates:?}"));
         }
     }
-    check_reads_back(n, wanted, list)
+    Ok(())
 }
 
 /// The second half of demand 2: the list reads back as exactly these weights and rows. Brute force reads it.
 pub fn check_reads_back(n: usize, wanted: &Reading, list: &[u8]) -> Result<(), String> {
-    let back = reading::read(n, list);
-    if back != *wanted {
+    check_same(wanted, &reading::read(n, list))
+}
+
+fn check_same(wanted: &Reading, back: &Reading) -> Result<(), String> {
+    if back != wanted {
         return Err(format!("reads back as {back:?}"));
     }
     Ok(())

@@ -71,6 +71,22 @@ fn written_lists_are_accepted_and_damaged_ones_are_not() {
     assert_eq!(most_written(8), 2112);
 }
 
+/// As many gates of each kind, and the same weights, but not spelled as the paper says.
+#[test]
+fn other_spellings_are_noticed() {
+    let mut weights = [0; 256];
+    weights[1] = 3;
+    let wanted = Reading { weights, rows: [1, 2, 0, 0, 0, 0, 0, 0] };
+    assert_eq!(check_written(2, &wanted, &[3, 0, 0, 2, 0, 0]), Ok(()), "S T");
+    assert!(check_written(2, &wanted, &[2, 0, 0, 3, 0, 0]).is_err(), "T S");
+    assert!(check_written(2, &wanted, &[3, 0, 0, 1, 0, 1, 1, 0, 1, 2, 0, 0]).is_err(), "S, two CNOTs, T");
+
+    weights[2] = 2;
+    let two = Reading { weights, rows: wanted.rows };
+    assert_eq!(check_written(2, &two, &[3, 0, 0, 2, 0, 0, 3, 1, 0]), Ok(()), "S T, then S on the other wire");
+    assert!(check_written(2, &two, &[3, 0, 0, 3, 1, 0, 2, 0, 0]).is_err(), "the S of another parity between S and T");
+}
+
 #[test]
 fn random_trims_meet_demand_3() {
     let mut random = Random::new(123);
