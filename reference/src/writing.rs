@@ -38,7 +38,12 @@ pub fn check_written(n: usize, wanted: &Reading, list: &[u8]) -> Result<(), Stri
     }
     let (phases, rows) = reading::phase_gates(n, list);
     check_spelled(wanted, &phases)?;
-    check_same(wanted, &Reading { weights: reading::weights_of(&phases), rows })
+    // The second half of demand 2: the list reads back as exactly these weights and rows. Brute force reads it.
+    let back = Reading { weights: reading::weights_of(&phases), rows };
+    if back != *wanted {
+        return Err(format!("reads back as {back:?}"));
+    }
+    Ok(())
 }
 
 /// The gates that add their phase at a parity are, in order, those that spell its weight, next to each other on one wire.
@@ -55,18 +60,6 @@ fn check_spelled(wanted: &Reading, phases: &[PhaseGate]) -> Result<(), String> {
         if gates.windows(2).any(|two| two[1].index != two[0].index + 1 || two[1].wire != two[0].wire) {
             return Err(format!("the gates at parity {p} stand apart: {gates:?}"));
         }
-    }
-    Ok(())
-}
-
-/// The second half of demand 2: the list reads back as exactly these weights and rows. Brute force reads it.
-pub fn check_reads_back(n: usize, wanted: &Reading, list: &[u8]) -> Result<(), String> {
-    check_same(wanted, &reading::read(n, list))
-}
-
-fn check_same(wanted: &Reading, back: &Reading) -> Result<(), String> {
-    if back != wanted {
-        return Err(format!("reads back as {back:?}"));
     }
     Ok(())
 }

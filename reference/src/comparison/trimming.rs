@@ -7,8 +7,9 @@ use crate::gates::GATE_BYTES;
 use crate::lent::Lent;
 use crate::moves::MOVE_BYTES;
 use crate::random::Random;
+use crate::reading;
 use crate::trimming::{check_trim, Counts, LOG_BYTES};
-use crate::writing::WRITTEN_BYTES;
+use crate::writing::{check_written, WRITTEN_BYTES};
 
 /// What the entry wrote and reported.
 pub struct Answer {
@@ -53,5 +54,6 @@ pub fn trim_into(n: usize, list: &[u8], out_len: usize, log_len: usize, random: 
     };
     let (gates, log) = (out.part()[..d_len].to_vec(), log.part()[..moves_len].to_vec());
     assert_eq!(check_trim(n, list, &gates, &log, &counts), Ok(()), "demand 3 for n = {n}, {counts:?}, list {list:?}");
+    assert_eq!(check_written(n, &reading::read(n, &gates), &gates), Ok(()), "how D is written, n = {n}, list {list:?}");
     Ok(Answer { gates, log, counts })
 }
