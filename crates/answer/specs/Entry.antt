@@ -22,9 +22,9 @@ told (Done bytes) = reply.Done
 told (Refused number place) = reply.Refused number place
 
 -- the number of bytes written, 0 where it refused
-abbrev pub bytesOf : Answered → ℕ
-bytesOf (Done bytes) = bytes
-bytesOf (Refused number place) = 0
+abbrev pub bytesWritten : Answered → ℕ
+bytesWritten (Done bytes) = bytes
+bytesWritten (Refused number place) = 0
 
 -- ---- the bytes lent
 
@@ -40,4 +40,4 @@ OutLeft (suc fault) count t out out′ = out′ ≡ out
 -- `answer`, called with this text and these lent bytes, replies r and leaves out′. Its one fault is 8: the longest reply does not fit
 pub record AnswerText (text out out′ : List ℕ) (r : Answered) : Type 0 where
   pub reply : told r ≡ callReply (shortFault (length out) replyBytes)
-  pub out-left : OutLeft (numberOf (told r)) (bytesOf r) (readText text) out out′
+  pub out-left : OutLeft (numberOf (told r)) (bytesWritten r) (readText text) out out′

@@ -8,7 +8,7 @@ use Rattle.circuit.specs.declared.Reply.{Reply}
 use Rattle.circuit.specs.declared.Reply.the-variants.{Done, Refused}
 use Rattle.text.specs.Text.{Text, circuit, faulty}
 use Rattle.text.specs.Written.{countsLine, gateLines, refusedLine, wiresLine}
-use Rattle.trimmer.specs.Entry.{Writes-read}
+use Rattle.trimmer.specs.Entry.{Writes-for}
 use Rattle.trimmer.specs.Trimmed.{Trimmed}
 use Rattle.trimmer.specs.declared.Counts.{Counts}
 
@@ -22,8 +22,8 @@ pub record PrintsTrim (n : ℕ) (C : List Gate) (bytes : List ℕ) : Type 0 wher
   pub log : List ℕ
   pub counts : Counts
   pub trimmed : Trimmed n C D log counts
-  -- written as any list is
-  pub written : Writes-read n D
+  -- written as any list is, for the new weights and the rows of C
+  pub written : Writes-for n C D
   pub lines : bytes ≡ trimLines n counts D
 
 -- what is printed for gates, by their first fault: its line and nothing else, or the lines of a trim

@@ -21,57 +21,45 @@ use Rattle.text.specs.declared.TextReply.{TextReply}
 use Rattle.trimmer.specs.Entry as trim
 use Rattle.trimmer.specs.declared.TrimReply.{TrimReply}
 
--- the entry replied as its promise says, and these are the reply's number and place
-pub record InC (Promise : Reply → Type 0) (number place : ℕ) : Type 0 where
-  pub reply : Reply
+-- the entry replied as its promise says; of its reply, told in document 01's words, these are the number and the place
+pub record Called (R : Type 0) (told : R → Reply) (Promise : R → Type 0) (number place : ℕ) : Type 0 where
+  pub reply : R
   pub promise : Promise reply
-  pub number-is : number ≡ numberOf reply
-  pub place-is : place ≡ placeOf reply
+  pub number-is : number ≡ numberOf (told reply)
+  pub place-is : place ≡ placeOf (told reply)
+
+abbrev pub InC : (Reply → Type 0) → ℕ → ℕ → Type 0
+InC = Called Reply (λ r. r)
 
 -- find: 1 where a move was found
 pub record FindInC (Promise : Finding → Type 0) (number place found : ℕ) : Type 0 where
-  pub reply : Finding
-  pub promise : Promise reply
-  pub number-is : number ≡ numberOf (find.told reply)
-  pub place-is : place ≡ placeOf (find.told reply)
-  pub found-is : found ≡ find.foundOf reply
+  pub called : Called Finding find.told Promise number place
+  pub found-is : found ≡ find.foundOf (called .reply)
 
 -- write: the number of gates
 pub record WriteInC (Promise : Written → Type 0) (number place gates : ℕ) : Type 0 where
-  pub reply : Written
-  pub promise : Promise reply
-  pub number-is : number ≡ numberOf (write.told reply)
-  pub place-is : place ≡ placeOf (write.told reply)
-  pub gates-is : gates ≡ write.countOf reply
+  pub called : Called Written write.told Promise number place
+  pub gates-is : gates ≡ write.countOf (called .reply)
 
 -- trim: the counts
 pub record TrimInC (Promise : TrimReply → Type 0) (number place tin odd tout moves gates : ℕ) : Type 0 where
-  pub reply : TrimReply
-  pub promise : Promise reply
-  pub number-is : number ≡ numberOf (trim.told reply)
-  pub place-is : place ≡ placeOf (trim.told reply)
-  pub tin-is : tin ≡ trim.countsOf reply .tin
-  pub odd-is : odd ≡ trim.countsOf reply .odd
-  pub tout-is : tout ≡ trim.countsOf reply .tout
-  pub moves-is : moves ≡ trim.countsOf reply .moves
-  pub gates-is : gates ≡ trim.countsOf reply .gates
+  pub called : Called TrimReply trim.told Promise number place
+  pub tin-is : tin ≡ trim.countsOf (called .reply) .tin
+  pub odd-is : odd ≡ trim.countsOf (called .reply) .odd
+  pub tout-is : tout ≡ trim.countsOf (called .reply) .tout
+  pub moves-is : moves ≡ trim.countsOf (called .reply) .moves
+  pub gates-is : gates ≡ trim.countsOf (called .reply) .gates
 
 -- read_text: the wire count and the number of gates
 pub record TextInC (Promise : TextReply → Type 0) (number place wires gates : ℕ) : Type 0 where
-  pub reply : TextReply
-  pub promise : Promise reply
-  pub number-is : number ≡ numberOf (text.told reply)
-  pub place-is : place ≡ placeOf (text.told reply)
-  pub wires-is : wires ≡ text.wiresOf reply
-  pub gates-is : gates ≡ text.countOf reply
+  pub called : Called TextReply text.told Promise number place
+  pub wires-is : wires ≡ text.wiresOf (called .reply)
+  pub gates-is : gates ≡ text.countOf (called .reply)
 
 -- answer: the bytes of the reply
 pub record AnswerInC (Promise : Answered → Type 0) (number place bytes : ℕ) : Type 0 where
-  pub reply : Answered
-  pub promise : Promise reply
-  pub number-is : number ≡ numberOf (answer.told reply)
-  pub place-is : place ≡ placeOf (answer.told reply)
-  pub bytes-is : bytes ≡ answer.bytesOf reply
+  pub called : Called Answered answer.told Promise number place
+  pub bytes-is : bytes ≡ answer.bytesWritten (called .reply)
 
 -- move_at: the part told by where it starts and how long it is; both 0 where the log is too short for move k
 pub record MoveInC (log : List ℕ) (k start long : ℕ) : Type 0 where

@@ -223,7 +223,7 @@ pub extern "C" fn sulmedra_answer(text: &[u8], out: &mut [u8]) -> SulmedraAnswer
 
 fn answered_in_c(reply: Answered) -> SulmedraAnswered
     ensures { λ r. ⌜ (r .number ≡ numberOf (answers.told reply)) × (r .place ≡ placeOf (answers.told reply))
-        × (r .bytes ≡ answers.bytesOf reply) ⌝ }
+        × (r .bytes ≡ answers.bytesWritten reply) ⌝ }
 {
     match reply {
         Answered::Done { bytes } => SulmedraAnswered {

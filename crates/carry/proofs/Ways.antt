@@ -4,9 +4,10 @@ use mathlib.Core.List.{List}
 use mathlib.Core.Logic.{_↔_, _≢_, inl, inr}
 use mathlib.Core.Path.{_∙_, _≡_, ap, refl, sym}
 use Prim.Native.Nat.{_<_, _^_, _≤_, ℕ}
+use native.Mathlib.Omega.{arith}
 use lib.ListN.{length}
 use lib.Pow.{pow-mono}
-use Rattle.circuit.proofs.Judging.{after-refusal, lent-well, refused, refused-not-done}
+use Rattle.circuit.proofs.Judging.{after-refusal, lent-well, refused}
 use Rattle.circuit.proofs.TableRule.{marks-passes}
 use Rattle.circuit.specs.Faults.{badMove, lentFault, refuse}
 use Rattle.circuit.specs.Limits.{maxMembers, maxWires, parities, tableBytes}
@@ -44,9 +45,9 @@ call-refused {n} {f} {m} {b} e h =
       reply = sym (refused f 0 (judge n m b) h) ∙ ap (λ (x : ℕ). refuse x 0 (judge n m b)) e;
       judged = λ z. absurd (h (e ∙ z));
       marks-left = after-refusal f _ m h;
-      signature = λ d. absurd (refused-not-done f 0 d);
-      sound = λ d. absurd (refused-not-done f 0 d);
-      smaller = λ d. absurd (refused-not-done f 0 d);
+      signature = λ d. absurd (h d);
+      sound = λ d. absurd (h d);
+      smaller = λ d. absurd (h d);
     }
 
 -- ---- the move
@@ -66,11 +67,11 @@ module _ {n : ℕ} {m : List ℕ} (marked : Marked n m) where
       let none : LegalCells maxMembers n m b → ⊥ = λ g. h (on-all b .0 g) in
       record {
         reply = ap (λ (x : Bool). cond x Done (Refused badMove 0)) (sym (move-no maxMembers n m b none)) ∙ by-move b;
-        judged = λ z. inr (refl, none);
+        judged = λ z. inr (refl, refl, none);
         marks-left = refl;
-        signature = λ d. absurd (refused-not-done badMove 0 d);
-        sound = λ d. absurd (refused-not-done badMove 0 d);
-        smaller = λ d. absurd (refused-not-done badMove 0 d);
+        signature = λ d. absurd (omega arith);
+        sound = λ d. absurd (omega arith);
+        smaller = λ d. absurd (omega arith);
       }
 
   pub move-done : {z : ℕ} {b Y m′ : List ℕ} → LegalCells maxMembers maxWires m b → z ≡ zOf b → Y ≡ setOf b → m′ ≡ carryOut m z Y

@@ -5,7 +5,7 @@ use mathlib.Core.Logic.{_⊎_}
 use mathlib.Core.Path.{_≡_}
 use Prim.Native.Nat.{_+_, _≤_, ℕ}
 use lib.ListN.{length}
-use Rattle.circuit.specs.Entry.{after, numberOf}
+use Rattle.circuit.specs.Entry.{after, numberOf, placeOf}
 use Rattle.circuit.specs.Faults.{badMove, lentFault, refuse}
 use Rattle.circuit.specs.Limits.{maxMembers, parities, tableBytes}
 use Rattle.circuit.specs.OddSet.{memberCount}
@@ -31,10 +31,11 @@ pub record CarriesOut (n : ℕ) (marks cells marks′ : List ℕ) (r : Reply) : 
   pub reply : r ≡ carryReply n marks cells
   -- without 1, 8 and 6: done exactly if the cells are a legal move for these marks
   pub judged : carryFault n marks ≡ 0
-      → ((r ≡ Done) × LegalCells maxMembers n marks cells) ⊎ ((r ≡ Refused badMove 0) × (LegalCells maxMembers n marks cells → ⊥))
+      → ((numberOf r ≡ 0) × LegalCells maxMembers n marks cells)
+      ⊎ ((numberOf r ≡ badMove) × (placeOf r ≡ 0) × (LegalCells maxMembers n marks cells → ⊥))
   -- the move that the cells say, carried out; or as they were
   pub marks-left : marks′ ≡ after (numberOf r) (carryOut marks (zOf cells) (setOf cells)) marks
   -- the signature stays; the marks are sound again; the odd set shrinks by one at least
-  pub signature : r ≡ Done → SameSignature n marks′ marks
-  pub sound : r ≡ Done → SoundMarks parities n marks′
-  pub smaller : r ≡ Done → memberCount marks′ + 1 ≤ memberCount marks
+  pub signature : numberOf r ≡ 0 → SameSignature n marks′ marks
+  pub sound : numberOf r ≡ 0 → SoundMarks parities n marks′
+  pub smaller : numberOf r ≡ 0 → memberCount marks′ + 1 ≤ memberCount marks

@@ -2,7 +2,7 @@
 use mathlib.Core.List.{List, _∷_}
 use mathlib.Core.Logic.{_≢_}
 use mathlib.Core.Path.{ap, sym, _∙_, _≡_}
-use Prim.Native.Nat.{_%_, _*_, _+_, _/_, _<_, _^_, suc, zero, ℕ}
+use Prim.Native.Nat.{_%_, _*_, _/_, _<_, _^_, suc, zero, ℕ}
 use native.Mathlib.Decide.{decLt, ℕ-discrete}
 use native.Mathlib.Nat.{le-refl, mod-eq-of-lt, one-mul, zero-mul}
 use native.Mathlib.Omega.{arith}

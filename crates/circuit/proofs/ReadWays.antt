@@ -1,6 +1,6 @@
 -- One law for each way out of the entry `read`, by what the judge of the call found, and what the writer needs and leaves.
 use mathlib.Core.List.{List}
-use mathlib.Core.Path.{ap, refl, sym, _∙_, _≡_}
+use mathlib.Core.Path.{ap, sym, _∙_, _≡_}
 use Prim.Native.Nat.{ℕ}
 use lib.ListN.{length}
 use Rattle.circuit.proofs.Judging.{after-refusal, lent-pass, list-done, list-number, or-pass}

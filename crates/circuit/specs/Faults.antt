@@ -44,7 +44,7 @@ tableRule = 6
 abbrev pub rowRule : ℕ
 rowRule = 7
 
--- a lent output of another length than it must have
+-- a lent output of another length than it must have, or shorter
 abbrev pub lentOutput : ℕ
 lentOutput = 8
 

@@ -19,14 +19,14 @@ use Rattle.finder.specs.declared.Finding.{Finding}
 use Rattle.finder.specs.declared.Finding.the-variants.{Found, Nothing, Refused}
 
 -- the arguments that have no fault
-pub record Sound (n : ℕ) (marks : List ℕ) (cells : ℕ) : Type 0 where
+pub record Findable (n : ℕ) (marks : List ℕ) (cells : ℕ) : Type 0 where
   pub some : 1 ≤ n
   pub few : n ≤ maxWires
   pub long : cells ≡ moveCells
   pub marked : SoundMarks parities n marks
 
 -- nothing sound is refused, nothing faulty is accepted
-pub find-accepts : (n : ℕ) (marks : List ℕ) (cells : ℕ) → (findFault n marks cells ≡ 0) ↔ Sound n marks cells
+pub find-accepts : (n : ℕ) (marks : List ℕ) (cells : ℕ) → (findFault n marks cells ≡ 0) ↔ Findable n marks cells
 find-accepts n marks cells = (
   λ e. let a = marks-passes n (lentFault cells moveCells) marks .0 e in
       record { some = a .0 .some; few = a .0 .few; long = lent-pass cells moveCells (a .1); marked = a .0 .sound },
@@ -63,7 +63,7 @@ module _ (n : ℕ) (marks cells cells′ : List ℕ) where
     pub find-keeps : r ≢ Found → cells′ ≡ cells
     find-keeps = answer-same r (h .cells-left)
 
-    module _ (sound : Sound n marks (length cells)) where
+    module _ (sound : Findable n marks (length cells)) where
       done : told r ≡ Done
       done = h .reply ∙ ap callReply (find-accepts n marks (length cells) .1 sound)
 

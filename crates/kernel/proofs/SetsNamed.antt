@@ -5,7 +5,9 @@ use mathlib.Core.Path.{_∙_, _≡_, ap, ap₂, refl, subst, sym}
 use Prim.Native.Nat.{_%_, _+_, _/_, _<_, _^_, _≤_, ℕ}
 use native.Mathlib.Omega.{arith}
 use lib.ListN.{getD, length, length-set, replicate, set}
+use Rattle.circuit.proofs.OddSet.{members-sum}
 use Rattle.circuit.specs.Limits.{maxMembers, moveCells, moveHead, parities, productBits, tableBytes}
+use Rattle.circuit.specs.OddSet.{memberCount}
 use Rattle.gf2.specs.Bit.{bit}
 use Rattle.gf2.specs.Sum.{sum}
 use Rattle.moves.proofs.Flips.{flip-bits}
@@ -38,18 +40,26 @@ module _ (member : List ℕ) (m k : ℕ) (marks : List ℕ) (is : marks ≡ name
   unfolding bit
   naming-unnamed ne = is ∙ sym (named-off parities member m k (omega arith))
 
+-- the members of marks that are 0 or 1 are their sum
+marked-sum : (marks : List ℕ) → length marks ≡ tableBytes → ((p : ℕ) → getD marks p 0 < 2)
+    → memberCount marks ≡ sum parities (λ p. getD marks p 0)
+marked-sum marks long bits = members-sum marks bits ∙ ap (λ (k : ℕ). sum k (λ p. getD marks p 0)) long
+
 -- with a the set is small enough: a member for each slot at most, and a
 small : (member : List ℕ) (m a : ℕ) → Room parities member m productBits → a < parities
     → Few (flip (named parities member m productBits) a)
 small member m a room l =
     let w : List ℕ = named parities member m productBits in
     let long : length w ≡ tableBytes = named-length parities member m productBits in
+    let as-long : length (flip w a) ≡ tableBytes = length-set w a ((getD w a 0 + 1) % 2) ∙ long in
+    let bits : (p : ℕ) → getD (flip w a) p 0 < 2 = λ p. flip-bits w a p (named-bits parities member m productBits p) in
     record {
-      long = length-set w a ((getD w a 0 + 1) % 2) ∙ long;
-      bits = λ p. flip-bits w a p (named-bits parities member m productBits p);
+      long = as-long;
+      bits = bits;
       few =
           omega (
             arith,
+            marked-sum (flip w a) as-long bits,
             named-few parities member m productBits room,
             subst (λ (k : ℕ). sum k (λ p. getD (flip w a) p 0) ≤ sum k (λ p. getD w p 0) + 1) long (flipped-few w a (rw long l)),
           );
@@ -87,6 +97,7 @@ module _ (z : ℕ) (marks : List ℕ) (h : Few marks) (y : ℕ) (inside : y < pa
         count,
         listed-room (λ p. getD marks p 0) (h .bits) parities y inside e,
         listed-length (λ p. getD marks p 0) (h .bits) parities,
+        marked-sum marks (h .long) (h .bits),
         h .few,
       )
 

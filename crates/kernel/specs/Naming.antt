@@ -4,8 +4,8 @@ use mathlib.Core.Path.{_≡_}
 use Prim.Native.Nat.{_<_, _≤_, ℕ}
 use lib.ListN.{getD, length}
 use Rattle.circuit.specs.Limits.{maxMembers, parities, productBits, tableBytes}
+use Rattle.circuit.specs.OddSet.{memberCount}
 use Rattle.gf2.specs.Bit.{bit}
-use Rattle.gf2.specs.Sum.{sum}
 use Rattle.moves.specs.Log.{asCells}
 use Rattle.moves.specs.Pair.{named}
 use Rattle.moves.specs.Sets.{listed}
@@ -19,7 +19,7 @@ pub record NamedMarks (m : ℕ) (member set : List ℕ) : Type 0 where
 pub record Few (set : List ℕ) : Type 0 where
   pub long : length set ≡ tableBytes
   pub bits : (p : ℕ) → getD set p 0 < 2
-  pub few : sum parities (λ p. getD set p 0) ≤ maxMembers
+  pub few : memberCount set ≤ maxMembers
 
 -- the cells of a move with z and the marked numbers
 abbrev pub listedCells : ℕ → List ℕ → List ℕ

@@ -19,7 +19,7 @@ use Rattle.moves.specs.Log.{logged}
 use Rattle.moves.specs.Replay.{Replays}
 use Rattle.phase.specs.NewWeights.{newWeights}
 use Rattle.synth.specs.Spelling.{gatesOfKind, occurs, spelledGates, spelling}
-use Rattle.trimmer.specs.Entry.{Writes-read}
+use Rattle.trimmer.specs.Entry.{Writes-for}
 use Rattle.trimmer.specs.Trimmed.{Trimmed, oddSetOf, weightsOf}
 use Rattle.trimmer.specs.declared.Counts.{Counts}
 use Rattle.marked.specs.Cases.{noCounts}
@@ -27,7 +27,7 @@ use Rattle.marked.specs.Cases.{noCounts}
 pub all-none : (k : Counts) → k .tin ≡ 0 → k .odd ≡ 0 → k .tout ≡ 0 → k .moves ≡ 0 → k .gates ≡ 0 → k ≡ noCounts
 all-none k a b c d e = λ i. record { tin = a i; odd = b i; tout = c i; moves = d i; gates = e i }
 
--- a list on one wire of which no phase gate is any kind's
+-- a list on one wire that has no phase gate of any kind is empty
 no-gate : (gs : List Gate) → AllWellFormed 1 gs → ((kind v : ℕ) → kindOf kind ≡ Phase v → gatesOfKind kind gs ≡ 0) → gs ≡ []
 unfolding gatesOfKind
 no-gate [] f none = refl
@@ -38,7 +38,7 @@ no-gate (gate kind a b ∷ gs) f none = absurd (go (kindOf kind) refl (f .0))
     go (Phase v) e w = omega (arith, none kind v e, delta-same kind)
     go Unknown e w = w
 
--- no weight is spelled by no gates
+-- where every weight is 0, nothing is spelled
 unspelled : (kind N : ℕ) → spelledGates kind (noWeights N) ≡ 0
 unfolding spelledGates occurs spelling
 unspelled kind N =
@@ -47,12 +47,12 @@ unspelled kind N =
     ∙ sum-zero (length (noWeights N))
 
 -- a list on one wire whose trim has nothing to write: no T gate, no odd weight, and no new weights
-pub record Nothing (C : List Gate) : Type 0 where
+pub record NothingToWrite (C : List Gate) : Type 0 where
   pub no-t : tGates C ≡ 0
   pub no-odd : memberCount (oddSetOf 1 C) ≡ 0
   pub none : newWeights parities 1 (weightsOf 1 C) (oddSetOf 1 C) ≡ noWeights maxWires
 
-module _ {C D : List Gate} {log : List ℕ} {counts : Counts} (nothing : Nothing C) (t : Trimmed 1 C D log counts) (written : Writes-read 1 D)
+module _ {C D : List Gate} {log : List ℕ} {counts : Counts} (nothing : NothingToWrite C) (t : Trimmed 1 C D log counts) (written : Writes-for 1 C D)
   where
     no-moves : counts .moves ≡ 0
     no-moves = omega (arith, t .afford, nothing .no-odd)
@@ -62,8 +62,8 @@ module _ {C D : List Gate} {log : List ℕ} {counts : Counts} (nothing : Nothing
     unfolding logged Replays
     same-odd = subst (λ (k : ℕ). Replays maxMembers 1 (oddSetOf 1 C) (logged moveCells log k) (oddSetOf 1 D)) no-moves (t .replayed)
 
-    weights-none : weightsOf 1 D ≡ noWeights maxWires
-    weights-none = t .weights ∙ ap (newWeights parities 1 (weightsOf 1 C)) (sym same-odd) ∙ nothing .none
+    weights-none : newWeights parities 1 (weightsOf 1 C) (oddSetOf 1 D) ≡ noWeights maxWires
+    weights-none = ap (newWeights parities 1 (weightsOf 1 C)) (sym same-odd) ∙ nothing .none
 
     no-gates : D ≡ []
     no-gates = no-gate D (t .formed) (λ kind v e. written .kinds kind v e ∙ ap (spelledGates kind) weights-none ∙ unspelled kind maxWires)

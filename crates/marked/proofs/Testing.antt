@@ -22,7 +22,7 @@ use Rattle.phase.specs.Coefficients.{c, l, q}
 use Rattle.phase.specs.NewWeights.{newWeights}
 use Rattle.trimmer.specs.Trimmed.{oddSetOf, weightsOf}
 use Rattle.trimmer.specs.declared.Counts.{Counts}
-use Rattle.marked.proofs.Empty.{Nothing, all-none, nothing-counted}
+use Rattle.marked.proofs.Empty.{NothingToWrite, all-none, nothing-counted}
 use Rattle.marked.specs.Cases.{AllClaimed, Case, Claim, coefficients, dependent, leaves, noCounts, oddSetWith, reads, refuses}
 use Rattle.marked.specs.Cases.{rowsWith, trims, weightsWith}
 use Rattle.circuit.specs.declared.Reply.{Reply}
@@ -71,7 +71,7 @@ isNothing gs =
     eqb (tGates gs) 0 &&
     (eqb (memberCount (oddSetOf 1 gs)) 0 && sameCells (newWeights parities 1 (weightsOf 1 gs) (oddSetOf 1 gs)) (noWeights maxWires))
 
-is-nothing : (gs : List Gate) → T (isNothing gs) → Nothing gs
+is-nothing : (gs : List Gate) → T (isNothing gs) → NothingToWrite gs
 unfolding isNothing
 is-nothing gs h =
     let new : List ℕ = newWeights parities 1 (weightsOf 1 gs) (oddSetOf 1 gs) in

@@ -15,7 +15,7 @@ use Rattle.moves.specs.CarryOut.{carryOut}
 use Rattle.moves.specs.Move.{Legal}
 use Rattle.phase.specs.Coefficients.{c, l, q}
 use Rattle.circuit.specs.declared.Reply.the-variants.{Refused}
-use Rattle.trimmer.specs.Entry.{Writes-read}
+use Rattle.trimmer.specs.Entry.{Writes-for}
 use Rattle.trimmer.specs.Trimmed.{Trimmed}
 use Rattle.trimmer.specs.declared.Counts.{Counts}
 
@@ -27,7 +27,7 @@ pub data Entry : Type 0 where
 pub data Case : Type 0 where
   -- reading these gates on n wires gives these weights, 0 elsewhere, these rows 0 to n - 1, that many T gates and an odd set of that size
   reads : (n : ℕ) → List Gate → List Entry → List ℕ → (t : ℕ) → (odd : ℕ) → Case
-  -- every trim of these gates on n wires reports these five counts
+  -- every trim of these gates on n wires reports these five counts (that there is one: trimmer/proofs/Laws, done-exactly)
   trims : (n : ℕ) → List Gate → Counts → Case
   -- these gates on n wires have that fault first, at that gate
   refuses : (n : ℕ) → List Gate → (number : ℕ) → (place : ℕ) → Case
@@ -61,7 +61,7 @@ abbrev pub Claim : Case → Type 0
 Claim (reads n gs es rows t odd) =
     (read maxWires n gs .weights ≡ weightsWith es) × (read maxWires n gs .rows ≡ rowsWith rows) × (tGates gs ≡ t)
     × (memberCount (oddSet (read maxWires n gs .weights)) ≡ odd)
-Claim (trims n gs k) = (D : List Gate) (log : List ℕ) (counts : Counts) → Trimmed n gs D log counts → Writes-read n D → counts ≡ k
+Claim (trims n gs k) = (D : List Gate) (log : List ℕ) (counts : Counts) → Trimmed n gs D log counts → Writes-for n gs D → counts ≡ k
 Claim (refuses n gs number place) = firstFault n 0 gs ≡ Refused number place
 Claim (coefficients n es a b d) = AllCoefficients n (weightsWith es) a b d
 Claim (leaves n es z Y left) = Legal maxMembers n (oddSetWith es) z Y × (carryOut (oddSetWith es) z Y ≡ weightsWith left)

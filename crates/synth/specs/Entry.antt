@@ -56,6 +56,7 @@ pub record Wrote (N n : ℕ) (r : Reading) (gs : List Gate) : Type 0 where
 
 -- from `gates` to `gates′`, that many gates were written for these weights and rows
 pub record WroteBytes (n : ℕ) (weights rows gates gates′ : List ℕ) (count : ℕ) : Type 0 where
+  -- the lent bytes hold so many gates
   pub counted : count ≡ length (frontGates count gates′)
   -- none of faults 1 to 5
   pub accepted : Accepted n (take (gateBytes * count) gates′)

@@ -1,6 +1,6 @@
 -- The trim of an accepted circuit, from what each of its steps leaves.
 use mathlib.Core.List.{List}
-use mathlib.Core.Path.{ap, subst, sym, _∙_, _≡_}
+use mathlib.Core.Path.{ap, ap₂, subst, sym, _∙_, _≡_}
 use Prim.Native.Nat.{_*_, ℕ}
 use lib.ListN.{length}
 use Rattle.circuit.proofs.Sound.{read-sound}
@@ -21,7 +21,7 @@ use Rattle.synth.specs.Entry.{Wrote, WroteBytes}
 use Rattle.synth.specs.Faults.{Writable}
 use Rattle.trimmer.proofs.Making.{Turn, still-marked}
 use Rattle.trimmer.proofs.Whole.{whole}
-use Rattle.trimmer.specs.Entry.{Done-with, Trimmable, Writes-read}
+use Rattle.trimmer.specs.Entry.{Done-with, Trimmable, Writes-for}
 use Rattle.trimmer.specs.Steps.{AllMade}
 use Rattle.trimmer.specs.Trimmed.{Trimmed, oddSetOf, weightsOf}
 use Rattle.trimmer.specs.declared.Counts.{Counts}
@@ -119,14 +119,15 @@ module _ {n : ℕ} {bytes out log w rows first : List ℕ} {k : ℕ} {last log�
       let rD : read maxWires n D .rows ≡ read maxWires n C .rows = ap (λ (r : Reading). r .rows) (list .reads) ∙ rows-is read-C in
       let tD : tGates D ≡ memberCount (oddSetOf n D) =
       list .t-gates ∙ ap (λ (r : Reading). memberCount (oddSet (r .weights))) (sym (list .reads)) in
-      let written-list : Writes-read n D =
-      subst (λ (r : Reading). Wrote maxWires n r D) (sym (list .reads)) list in
+      let all : Trimmed n C D log′ counts =
+      whole n (accepted .few) C (accepted .formed) log′ k last (replayed (c .moved)) (c .moved .all .none) D (list .formed) wD rD tD
+      counts tin (odd ∙ ap memberCount (first-is (c .moved .marked))) tout moves (gates ∙ wrote .counted) in
+      let new-C : new ≡ newWeights parities n (weightsOf n C) (oddSetOf n D) =
+      sym (ap (λ (r : Reading). r .weights) (list .reads)) ∙ all .weights in
+      let for-C : Writes-for n C D = subst (λ (r : Reading). Wrote maxWires n r D) (ap₂ readingLent new-C (rows-is read-C)) list in
       record {
-        trimmed =
-            subst (λ (j : ℕ). Trimmed n C (frontGates j out′) log′ counts) (sym gates)
-            (whole n (accepted .few) C (accepted .formed) log′ k last (replayed (c .moved)) (c .moved .all .none) D (list .formed) wD rD tD
-            counts tin (odd ∙ ap memberCount (first-is (c .moved .marked))) tout moves (gates ∙ wrote .counted));
-        written = subst (λ (j : ℕ). Writes-read n (frontGates j out′)) (sym gates) written-list;
+        trimmed = subst (λ (j : ℕ). Trimmed n C (frontGates j out′) log′ counts) (sym gates) all;
+        written = subst (λ (j : ℕ). Writes-for n C (frontGates j out′)) (sym gates) for-C;
         gates-kept = subst (λ (j : ℕ). KeptFrom (gateBytes * j) out out′) (sym gates) (wrote .kept);
         log-kept = subst (λ (j : ℕ). KeptFrom (moveCells * j) log log′) (sym moves) (c .moved .all .made .kept);
       }

@@ -1,7 +1,7 @@
 -- The page to read: which circuits are trimmed, and what the promise of `trim` means.
 use mathlib.Core.List.{List}
 use mathlib.Core.Logic.{_↔_, _≢_}
-use mathlib.Core.Path.{ap, refl, subst, sym, _∙_, _≡_}
+use mathlib.Core.Path.{ap, refl, sym, _∙_, _≡_}
 use Prim.Native.Nat.{suc, zero, ℕ}
 use lib.ListN.{length}
 use Rattle.circuit.proofs.Judging.{done-list, list-number, or-well, refused-not-done, short-well, zero-done}

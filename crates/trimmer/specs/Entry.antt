@@ -7,10 +7,11 @@ use Rattle.circuit.specs.Entry.{numberOf}
 use Rattle.circuit.specs.Faults.{Accepted, listReply, orElse, shortFault}
 use Rattle.circuit.specs.Gate.{Gate, gatesOf}
 use Rattle.circuit.specs.Lent.{KeptFrom, frontGates}
-use Rattle.circuit.specs.Limits.{gateBytes, logCells, maxWires, moveCells, writeBytes}
-use Rattle.circuit.specs.Read.{read}
+use Rattle.circuit.specs.Limits.{gateBytes, logCells, maxWires, moveCells, parities, writeBytes}
+use Rattle.circuit.specs.Read.{read, withWeights}
+use Rattle.phase.specs.NewWeights.{newWeights}
 use Rattle.synth.specs.Entry.{Wrote}
-use Rattle.trimmer.specs.Trimmed.{Trimmed}
+use Rattle.trimmer.specs.Trimmed.{Trimmed, oddSetOf, weightsOf}
 use Rattle.trimmer.specs.declared.Counts.{Counts}
 use Rattle.trimmer.specs.declared.TrimReply.{TrimReply}
 use Rattle.trimmer.specs.declared.TrimReply.the-variants.{Done, Refused}
@@ -45,15 +46,17 @@ pub record Trimmable (n : ℕ) (bytes out log : List ℕ) : Type 0 where
   pub out-room : writeBytes ≤ length out
   pub log-room : logCells ≤ length log
 
--- what the papers say of a written list holds of this one, for what reading it gives
-abbrev pub Writes-read : ℕ → List Gate → Type 0
-Writes-read n D = Wrote maxWires n (read maxWires n D) D
+-- D is written, as any list is, for the new weights and the rows of C
+abbrev pub Writes-for : ℕ → List Gate → List Gate → Type 0
+Writes-for n C D = Wrote maxWires n (withWeights (newWeights parities n (weightsOf n C) (oddSetOf n D)) (read maxWires n C)) D
 
 -- an accepted C is trimmed
 pub record Done-with (n : ℕ) (bytes out log out′ log′ : List ℕ) (counts : Counts) : Type 0 where
+  -- D is as many gates at the front of what is lent as are reported: the count says where D ends, `gates-kept` that nothing is written
+  -- behind it
   pub trimmed : Trimmed n (gatesOf bytes) (frontGates (counts .gates) out′) log′ counts
-  -- and D is written as any list is: each weight in its spelling, and at most n * 2^n + n * n gates
-  pub written : Writes-read n (frontGates (counts .gates) out′)
+  -- each weight in its spelling, and at most n * 2^n + n * n gates
+  pub written : Writes-for n (gatesOf bytes) (frontGates (counts .gates) out′)
   -- bytes after the last gate, and cells after the last move, stay untouched
   pub gates-kept : KeptFrom (gateBytes * counts .gates) out out′
   pub log-kept : KeptFrom (moveCells * counts .moves) log log′

@@ -1,7 +1,7 @@
 -- Weights less marks, modulo 8, on the parities of n wires: l and q of the difference give the rests.
 use mathlib.Core.List.{List}
 use mathlib.Core.Path.{ap, sym, _∙_, _≡_}
-use Prim.Native.Nat.{_%_, _*_, _+_, _-_, _/_, _<_, _^_, ℕ, _≤_}
+use Prim.Native.Nat.{_%_, _*_, _+_, _/_, _<_, _^_, ℕ, _≤_}
 use native.Mathlib.Decide.{decLt, ℕ-discrete}
 use native.Mathlib.Omega.{arith}
 use lib.ListN.{List·getD-eq-default, getD, length, take}
