@@ -13,26 +13,26 @@
 
 enum { CNOT = SULMEDRA_CNOT, T = SULMEDRA_T, WIRES = 4 };
 
-/* Three bytes to a gate: kind, a, b. Beside each T stands the parity that its wire holds there. */
+/* Three bytes to a gate: kind, a, b. Beside each T stands the parity that its wire holds there; ^ is XOR. */
 static const uint8_t circuit[] = {
     T, 1, 0,                /* x1 */
-    CNOT, 0, 1, T, 1, 0,    /* x0 + x1 */
+    CNOT, 0, 1, T, 1, 0,    /* x0 ^ x1 */
     CNOT, 0, 1,
 
     T, 2, 0,                /* x2 */
-    CNOT, 0, 2, T, 2, 0,    /* x0 + x2 */
-    CNOT, 1, 2, T, 2, 0,    /* x0 + x1 + x2 */
-    CNOT, 0, 2, T, 2, 0,    /* x1 + x2 */
+    CNOT, 0, 2, T, 2, 0,    /* x0 ^ x2 */
+    CNOT, 1, 2, T, 2, 0,    /* x0 ^ x1 ^ x2 */
+    CNOT, 0, 2, T, 2, 0,    /* x1 ^ x2 */
     CNOT, 1, 2,
 
     T, 3, 0,                /* x3 */
-    CNOT, 0, 3, T, 3, 0,    /* x0 + x3 */
-    CNOT, 1, 3, T, 3, 0,    /* x0 + x1 + x3 */
-    CNOT, 0, 3, T, 3, 0,    /* x1 + x3 */
-    CNOT, 2, 3, T, 3, 0,    /* x1 + x2 + x3 */
-    CNOT, 0, 3, T, 3, 0,    /* x0 + x1 + x2 + x3 */
-    CNOT, 1, 3, T, 3, 0,    /* x0 + x2 + x3 */
-    CNOT, 0, 3, T, 3, 0,    /* x2 + x3 */
+    CNOT, 0, 3, T, 3, 0,    /* x0 ^ x3 */
+    CNOT, 1, 3, T, 3, 0,    /* x0 ^ x1 ^ x3 */
+    CNOT, 0, 3, T, 3, 0,    /* x1 ^ x3 */
+    CNOT, 2, 3, T, 3, 0,    /* x1 ^ x2 ^ x3 */
+    CNOT, 0, 3, T, 3, 0,    /* x0 ^ x1 ^ x2 ^ x3 */
+    CNOT, 1, 3, T, 3, 0,    /* x0 ^ x2 ^ x3 */
+    CNOT, 0, 3, T, 3, 0,    /* x2 ^ x3 */
     CNOT, 2, 3,
 };
 

@@ -1,5 +1,6 @@
 /* Sulmedra: the proved T-count trimmer, for C. Each function is proved to keep the promise of the entry that it exports (crates/capi).
- * docs/RULES.md of the repository tells the rules: gates, weights and rows, marks, moves and logs, the text form, faults.
+ * docs/RULES.md of the repository, installed as share/doc/sulmedra/RULES.md, tells the rules: gates, weights and rows, marks, moves and
+ * logs, the text form, faults.
  *
  * Replies. Every call replies: number 0 and place 0 when it is done, else the fault's number and its place (sulmedra_move_at has no
  * fault). A refusal leaves every lent buffer as it was.
@@ -11,10 +12,10 @@
  * Threads. The library keeps no state: it has constants, and no variable that outlives a call. Calls may run at the same time, as long as
  * none writes what another one is lent.
  *
- * Stack. A thread with SULMEDRA_STACK_BYTES of stack can make every call, whatever the arguments. Measured on threads whose stacks were
- * painted before (tests/c/test_stack.c): sulmedra_answer takes about 34,200 bytes, every other function about 5,300 at most, and the test
- * holds the others below 16,384. No call allocates memory or asks anything of the system; of the C library the functions need memcpy,
- * memmove and memset alone.
+ * Stack. A thread with SULMEDRA_STACK_BYTES of stack can make every call, whatever the arguments. No function of the library calls
+ * itself, and no frame depends on an argument. tests/c/test_stack.c measures each call on a thread whose stack was painted before, and
+ * holds sulmedra_answer below 49,152 bytes and every other function below 16,384. No call allocates memory or asks anything of the system;
+ * of the C library the functions need memcpy and memset alone.
  */
 #ifndef SULMEDRA_H
 #define SULMEDRA_H
@@ -48,7 +49,7 @@ extern "C" {
 #define SULMEDRA_C_BYTES 512
 
 /* A move: z, the number in Y, the members of Y, zeros. A log is lent for the most moves that a trim can make. */
-#define SULMEDRA_MAX_MEMBERS 38
+#define SULMEDRA_MAX_MEMBERS 38 /* of Y */
 #define SULMEDRA_MOVE_BYTES 40
 #define SULMEDRA_MAX_MOVES 255
 #define SULMEDRA_LOG_BYTES 10200
@@ -78,7 +79,7 @@ enum sulmedra_kind {
 enum sulmedra_fault {
     SULMEDRA_DONE = 0,
     SULMEDRA_FAULT_WIRE_COUNT = 1,  /* the wire count is 0 or above 8 */
-    SULMEDRA_FAULT_LIST_LENGTH = 2, /* the list is no multiple of three bytes, or over 12,288 */
+    SULMEDRA_FAULT_LIST_LENGTH = 2, /* the list is no multiple of three bytes, or over 12,288; in a text: more than 4,096 gate lines */
     SULMEDRA_FAULT_GATE_KIND = 3,   /* a kind is outside 1 to 6 */
     SULMEDRA_FAULT_GATE_WIRE = 4,   /* a is not below n; or b is not below n in a CNOT, not 0 elsewhere */
     SULMEDRA_FAULT_SAME_WIRE = 5,   /* a CNOT has a = b */
@@ -113,13 +114,14 @@ sulmedra_reply sulmedra_odd_set(size_t n, const uint8_t *weights, size_t weights
  *   l        8 bytes, written: l(i) at i
  *   q        64 bytes, written: q(i, j) at 8 j + i, for i < j
  *   c        512 bytes, written: c(i, j, k) at 64 k + 8 j + i, for i < j < k
- * Every other byte of the three is written as 0. Checks, in order: 1, 8 (l, q or c of another length, as any lent output), 6. */
+ * Every other byte of the three is written as 0. Checks, in order: 1, 8 (l, q or c of any other length), 6. */
 sulmedra_reply sulmedra_coefficients(size_t n, const uint8_t *weights, size_t weights_len, uint8_t *l, size_t l_len, uint8_t *q,
                                      size_t q_len, uint8_t *c, size_t c_len);
 
 /* The new weights for the weights of a circuit and an odd set with their signature: each member gets 1, and the even rest is added so
- * that the phases are those of the weights. For marks of another signature the call is done as well: the bytes written are what the same
- * formula gives, but no weights at all have both these marks as odd set and those phases, and the rules give the bytes no meaning.
+ * that the phases are those of the weights. For marks of another signature no weights at all have both these marks as odd set and the
+ * phases of the weights given. The call is done all the same; what it writes, by the two formulas of docs/RULES.md, is a sound table of
+ * weights without a meaning.
  *   weights  256 bytes, as above
  *   marks    256 bytes, each 0 or 1, 0 at parity 0 and from 2^n up
  *   out      256 bytes, written

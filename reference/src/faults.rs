@@ -136,7 +136,8 @@ fn rows_are_faulty(n: usize, rows: &[u8]) -> bool {
 
 /// The reply to a call on a list: faults of the call, then of its gates.
 fn reply_on_list(n: usize, list: &[u8], output_is_faulty: bool) -> Reply {
-    let length = !list.len().is_multiple_of(GATE_BYTES) || list.len() > MOST_GATES * GATE_BYTES;
+    let rest = list.chunks_exact(GATE_BYTES).remainder();
+    let length = !rest.is_empty() || list.len() > MOST_GATES * GATE_BYTES;
     let faults = [(WIRE_COUNT, wire_count_is_faulty(n)), (LIST_LENGTH, length), (LENT_OUTPUT, output_is_faulty)];
     match reply_to_call(&faults) {
         DONE => first_gate_fault(n, list),

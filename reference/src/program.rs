@@ -4,7 +4,7 @@
 //! names another file to run.
 
 use std::fs::File;
-use std::io::{ErrorKind, PipeWriter, Read, Write};
+use std::io::{ErrorKind, Read, Write};
 use std::path::PathBuf;
 use std::process::{Child, ChildStdin, Command, ExitStatus, Stdio};
 use std::sync::mpsc::{channel, Receiver};
@@ -64,10 +64,11 @@ pub fn run_after(first: &str, input: Stdio, output: Stdio) -> Ended {
     ended(child.expect("there is a shell"))
 }
 
-/// The writing end of a pipe that nobody reads any more.
-pub fn unread_pipe() -> PipeWriter {
-    let (reader, mut writer) = io::pipe().expect("the system has pipes");
-    drop(reader);
+/// The writing end of a pipe that nobody reads any more: its reader was a process that has ended.
+pub fn unread_pipe() -> ChildStdin {
+    let mut reader = Command::new("true").stdin(Stdio::piped()).spawn().expect("there is a command that only ends");
+    let mut writer = reader.stdin.take().expect("the input is a pipe");
+    reader.wait().expect("it has ended");
     // A process that another test has just started may hold the reading end for a moment longer.
     loop {
         match writer.write_all(b" ") {

@@ -4,6 +4,9 @@
 
 int main(void)
 {
+    static uint8_t crash_stack[CRASH_STACK_BYTES];
+    about("the start");
+    tell_crashes(crash_stack);
     test_numbers();
     test_read();
     test_weights();

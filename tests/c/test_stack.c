@@ -1,6 +1,6 @@
 /* The stack that a call takes. Each function is called on a thread whose whole stack is SULMEDRA_STACK_BYTES, with a page below it that
  * may not be touched. The stack is painted before; where the paint ends is how far the thread came. What lies between the caller's frame
- * and that place is counted, so that the count is too high rather than too low. */
+ * and that place is counted. Bytes that the call reserves and never writes are not seen. */
 #define _DEFAULT_SOURCE /* MAP_ANONYMOUS */
 
 #include <pthread.h>
@@ -13,7 +13,8 @@
 #include "circuits.h"
 #include "tests.h"
 
-enum { PAINT = 0xa5, SMALL_STACK = 16384, UNKNOWN = 99 };
+/* The two bounds are those that the header names. */
+enum { PAINT = 0xa5, ANSWER_STACK = 49152, SMALL_STACK = 16384, UNKNOWN = 99 };
 
 /* All arguments lie outside the stack. */
 static gate_list list;
@@ -81,6 +82,25 @@ static void answer_it(void)
     number = sulmedra_answer((const uint8_t *)text, strlen(text), WHOLE(answer)).number;
 }
 
+typedef struct {
+    const char *name;
+    void (*make)(void);
+} named_call;
+
+static const named_call small[] = {
+    {"stack: read", read_it},
+    {"stack: odd_set", odd_set},
+    {"stack: coefficients", coefficients},
+    {"stack: new_weights", renew},
+    {"stack: find", find},
+    {"stack: carry_out", carry_out},
+    {"stack: write", write_it},
+    {"stack: trim", trim},
+    {"stack: move_at", move_at},
+    {"stack: read_text", read_text},
+};
+static const named_call large = {"stack: answer", answer_it};
+
 /* Circuits with moves to find, so that every call goes as deep as it can. */
 static void prepare(void)
 {
@@ -97,7 +117,9 @@ typedef struct {
 
 static void *make_call(void *given)
 {
+    static uint8_t crash_stack[CRASH_STACK_BYTES]; /* one thread runs at a time */
     call *one = given;
+    tell_crashes(crash_stack);
     one->from = __builtin_frame_address(0);
     one->make();
     return NULL;
@@ -125,15 +147,16 @@ static const uint8_t *lowest_without_paint(const uint8_t *stack)
 }
 
 /* The bytes of stack that a call takes. */
-static size_t stack_of(void (*make)(void))
+static size_t stack_of(const named_call *given)
 {
+    about(given->name);
     size_t page = (size_t)sysconf(_SC_PAGESIZE);
     uint8_t *low = mmap(NULL, page + SULMEDRA_STACK_BYTES, PROT_READ | PROT_WRITE, MAP_PRIVATE | MAP_ANONYMOUS, -1, 0);
     CHECK(low != MAP_FAILED && mprotect(low, page, PROT_NONE) == 0);
     uint8_t *stack = low + page;
     memset(stack, PAINT, SULMEDRA_STACK_BYTES);
     number = UNKNOWN;
-    call one = {make, stack};
+    call one = {given->make, stack};
     run_on(stack, &one);
     CHECK(number == SULMEDRA_DONE);
     CHECK(one.from > lowest_without_paint(stack));
@@ -144,14 +167,14 @@ static size_t stack_of(void (*make)(void))
 
 void test_stack(void)
 {
-    void (*const small[])(void) = {read_it, odd_set, coefficients, renew, find, carry_out, write_it, trim, move_at, read_text};
     size_t most = 0;
-    about("stack");
     prepare();
     for (size_t i = 0; i < sizeof small / sizeof *small; i++) {
-        size_t taken = stack_of(small[i]);
+        size_t taken = stack_of(&small[i]);
         CHECK(taken < SMALL_STACK);
         most = taken > most ? taken : most;
     }
-    printf("the C test: stack: sulmedra_answer %zu bytes, every other function at most %zu\n", stack_of(answer_it), most);
+    size_t answers = stack_of(&large);
+    CHECK(answers < ANSWER_STACK);
+    printf("the C test: stack: sulmedra_answer %zu bytes, every other function at most %zu\n", answers, most);
 }

@@ -39,15 +39,20 @@ static text_call call_read_text(lent text, size_t gates_len)
     return call;
 }
 
-static void reads(lent text, uint64_t wires, const uint8_t *gates, size_t len)
+static void reads_into(size_t gates_len, lent text, uint64_t wires, const uint8_t *gates, size_t len)
 {
-    text_call call = call_read_text(text, SULMEDRA_LIST_BYTES);
+    text_call call = call_read_text(text, gates_len);
     CHECK(call.reply.number == SULMEDRA_DONE);
     CHECK(call.reply.place == 0);
     CHECK(call.reply.wires == wires);
     CHECK(call.reply.gates == len / SULMEDRA_GATE_BYTES);
     CHECK(starts_with(&call.gates, gates, len));
     take_back();
+}
+
+static void reads(lent text, uint64_t wires, const uint8_t *gates, size_t len)
+{
+    reads_into(SULMEDRA_LIST_BYTES, text, wires, gates, len);
 }
 
 static void not_read(text_call call, uint64_t number, uint64_t place)
@@ -101,6 +106,8 @@ static void reading_texts(void)
     reads(lend_text("01\n020000\n030000\n"), 1, LIST(T(0), ON(SULMEDRA_S, 0)));
     about("read_text: gates are not judged");
     reads(lend_text("02\nffa09b\n"), 2, LIST(0xff, 0xa0, 0x9b));
+    about("read_text: more room");
+    reads_into(SULMEDRA_LIST_BYTES + 1, lend_text("01\n020000\n"), 1, LIST(T(0)));
     malformed_texts();
     about("read_text: wire count");
     not_read(call_read_text(lend_text("00\n"), SULMEDRA_LIST_BYTES), SULMEDRA_FAULT_WIRE_COUNT, 0);
@@ -113,9 +120,9 @@ static void reading_texts(void)
 
 /* ---- answer */
 
-static void answers(const char *name, lent text, const char *due)
+static void answers_into(size_t out_len, const char *name, lent text, const char *due)
 {
-    lent out = lend(SULMEDRA_REPLY_BYTES);
+    lent out = lend(out_len);
     about(name);
     sulmedra_answered reply = sulmedra_answer(text.bytes, text.len, out.bytes, out.len);
     CHECK(reply.number == SULMEDRA_DONE);
@@ -124,6 +131,11 @@ static void answers(const char *name, lent text, const char *due)
     CHECK(untouched(&text));
     CHECK(starts_with(&out, (const uint8_t *)due, strlen(due)));
     take_back();
+}
+
+static void answers(const char *name, lent text, const char *due)
+{
+    answers_into(SULMEDRA_REPLY_BYTES, name, text, due);
 }
 
 static void not_answered(size_t out_len)
@@ -159,6 +171,7 @@ static void answering(void)
     answers("answer: 4,096 gates", lend_long_text(SULMEDRA_MAX_GATES, ""), "01\n1000 0000 0000 0000\n");
     answers("answer: fault 2", lend_long_text(SULMEDRA_MAX_GATES, "\n"), "refused 02 0000\n");
     answers("answer: what comes later does not matter", lend_long_text(SULMEDRA_MAX_GATES, "xyz"), "refused 02 0000\n");
+    answers_into(SULMEDRA_REPLY_BYTES + 1, "answer: more room", lend_text("01\n020000\n"), "01\n0001 0001 0001 0000\n020000\n");
     not_answered(SULMEDRA_REPLY_BYTES - 1);
     not_answered(0);
 }

@@ -1,4 +1,5 @@
-/* Calls at the same time: each thread trims circuits of its own, and gets what it got alone. */
+/* Calls at the same time: each thread trims circuits of its own, and gets what it got alone. A race of microseconds need not show here.
+ * What the header says of threads rests on the check in scripts/test-c that nothing in the library can be written. */
 #include <pthread.h>
 #include <string.h>
 
@@ -40,6 +41,7 @@ void test_threads(void)
 {
     static work works[THREADS];
     pthread_t threads[THREADS];
+    int started[THREADS];
     about("calls at the same time");
     for (size_t i = 0; i < THREADS; i++) {
         works[i].list = noise_gates(SULMEDRA_MAX_WIRES, 500 + i);
@@ -47,10 +49,13 @@ void test_threads(void)
         trim(&works[i].list, &works[i].alone);
         CHECK(works[i].alone.reply.number == SULMEDRA_DONE);
     }
-    for (size_t i = 0; i < THREADS; i++)
-        CHECK(pthread_create(&threads[i], NULL, trim_again_and_again, &works[i]) == 0);
     for (size_t i = 0; i < THREADS; i++) {
-        CHECK(pthread_join(threads[i], NULL) == 0);
+        started[i] = pthread_create(&threads[i], NULL, trim_again_and_again, &works[i]) == 0;
+        CHECK(started[i]);
+    }
+    for (size_t i = 0; i < THREADS; i++) {
+        if (started[i])
+            CHECK(pthread_join(threads[i], NULL) == 0);
         CHECK(works[i].same);
     }
 }

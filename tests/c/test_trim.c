@@ -126,15 +126,15 @@ static void all_counts_differ(void)
     take_back();
 }
 
-/* The fourteen-T block has one move; what is left is one gate, and nothing in it is free. */
-static void fourteen(void)
+/* The fourteen-T block has one move; what is left is one gate, and nothing in it is free. More may be lent than is needed. */
+static void fourteen(const char *name, size_t out_len, size_t log_len)
 {
     uint8_t gates[SULMEDRA_WRITE_BYTES];
     table weights = ones(2, 15);
     row_list rows = same_wires(4);
-    about("trim: the fourteen-T block");
+    about(name);
     sulmedra_written list = sulmedra_write(4, weights.at, sizeof weights.at, rows.of, sizeof rows.of, gates, sizeof gates);
-    trim_call call = call_with_room(4, gates, SULMEDRA_GATE_BYTES * list.gates);
+    trim_call call = call_trim(4, gates, SULMEDRA_GATE_BYTES * list.gates, out_len, log_len);
     trimmed(&call);
     CHECK(call.reply.t_in == 14);
     CHECK(call.reply.odd_size == 14);
@@ -190,7 +190,9 @@ void test_trim(void)
 {
     empty_circuit();
     all_counts_differ();
-    fourteen();
+    fourteen("trim: the fourteen-T block", SULMEDRA_WRITE_BYTES, SULMEDRA_LOG_BYTES);
+    fourteen("trim: more room for gates", SULMEDRA_WRITE_BYTES + 1, SULMEDRA_LOG_BYTES);
+    fourteen("trim: more room for the log", SULMEDRA_WRITE_BYTES, SULMEDRA_LOG_BYTES + 1);
     trims_to("trim: M6", 3, doubly_controlled_z(), 7, 7, 0);
     trims_to("trim: M7", 4, ones(1, 15), 15, 0, 1);
     for (size_t n = 1; n <= SULMEDRA_MAX_WIRES; n++)
