@@ -52,23 +52,23 @@ pub record NothingToWrite (C : List Gate) : Type 0 where
   pub no-odd : memberCount (oddSetOf 1 C) ≡ 0
   pub none : newWeights parities 1 (weightsOf 1 C) (oddSetOf 1 C) ≡ noWeights maxWires
 
-module _ {C D : List Gate} {log : List ℕ} {counts : Counts} (nothing : NothingToWrite C) (t : Trimmed 1 C D log counts) (written : Writes-for 1 C D)
-  where
-    no-moves : counts .moves ≡ 0
-    no-moves = omega (arith, t .afford, nothing .no-odd)
+module _ {C D : List Gate} {log : List ℕ} {counts : Counts} (nothing : NothingToWrite C) (t : Trimmed 1 C D log counts)
+    (written : Writes-for 1 C D) where
+  no-moves : counts .moves ≡ 0
+  no-moves = omega (arith, t .afford, nothing .no-odd)
 
-    -- no move, so D's odd set is C's
-    same-odd : oddSetOf 1 C ≡ oddSetOf 1 D
-    unfolding logged Replays
-    same-odd = subst (λ (k : ℕ). Replays maxMembers 1 (oddSetOf 1 C) (logged moveCells log k) (oddSetOf 1 D)) no-moves (t .replayed)
+  -- no move, so D's odd set is C's
+  same-odd : oddSetOf 1 C ≡ oddSetOf 1 D
+  unfolding logged Replays
+  same-odd = subst (λ (k : ℕ). Replays maxMembers 1 (oddSetOf 1 C) (logged moveCells log k) (oddSetOf 1 D)) no-moves (t .replayed)
 
-    weights-none : newWeights parities 1 (weightsOf 1 C) (oddSetOf 1 D) ≡ noWeights maxWires
-    weights-none = ap (newWeights parities 1 (weightsOf 1 C)) (sym same-odd) ∙ nothing .none
+  weights-none : newWeights parities 1 (weightsOf 1 C) (oddSetOf 1 D) ≡ noWeights maxWires
+  weights-none = ap (newWeights parities 1 (weightsOf 1 C)) (sym same-odd) ∙ nothing .none
 
-    no-gates : D ≡ []
-    no-gates = no-gate D (t .formed) (λ kind v e. written .kinds kind v e ∙ ap (spelledGates kind) weights-none ∙ unspelled kind maxWires)
+  no-gates : D ≡ []
+  no-gates = no-gate D (t .formed) (λ kind v e. written .kinds kind v e ∙ ap (spelledGates kind) weights-none ∙ unspelled kind maxWires)
 
-    pub nothing-counted : counts ≡ noCounts
-    nothing-counted =
-        all-none counts (t .t-in ∙ nothing .no-t) (t .odd-size ∙ nothing .no-odd)
-        (omega (arith, t .t-out, t .no-more, nothing .no-t)) no-moves (t .gates-written ∙ ap length no-gates)
+  pub nothing-counted : counts ≡ noCounts
+  nothing-counted =
+      all-none counts (t .t-in ∙ nothing .no-t) (t .odd-size ∙ nothing .no-odd)
+      (omega (arith, t .t-out, t .no-more, nothing .no-t)) no-moves (t .gates-written ∙ ap length no-gates)
