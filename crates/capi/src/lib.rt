@@ -1,7 +1,8 @@
 // The C interface: each public entry once more as an exported function, thin. include/sulmedra.h declares them for C.
 // A slice passes as a pointer and a length. A reply is two numbers: document 01's fault number, 0 for none, and its place.
 ghost use mathlib.Core.Path.{_≡_};
-ghost use Rattle.circuit.specs.Entry.{numberOf, placeOf, ReadList};
+ghost use Rattle.circuit.specs.Replies.{numberOf, placeOf};
+ghost use Rattle.reader.specs.Entry.{ReadList};
 ghost use Rattle.weights.specs.Entry.{OddSetOf, CoefficientsOf, NewWeightsOf};
 ghost use Rattle.carry.specs.Entry.{CarriesOut};
 ghost use Rattle.finder.specs.Entry as find;
@@ -81,7 +82,7 @@ pub struct SulmedraAnswered {
     pub bytes: u64,
 }
 
-// `circuit::read`.
+// `reader::read`.
 #[no_mangle]
 pub extern "C" fn sulmedra_read(
     n: usize,
@@ -92,7 +93,7 @@ pub extern "C" fn sulmedra_read(
     ensures { λ r. ⌜ InC (ReadList n (now (gates .entry)) (now (weights .entry)) (now (rows .entry)) (now (weights .exit))
         (now (rows .exit))) (r .number) (r .place) ⌝ }
 {
-    in_c(circuit::read(n, gates, weights, rows))
+    in_c(reader::read(n, gates, weights, rows))
 }
 
 // `weights::odd_set`.

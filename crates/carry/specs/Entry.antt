@@ -5,7 +5,7 @@ use mathlib.Core.Logic.{_⊎_}
 use mathlib.Core.Path.{_≡_}
 use Prim.Native.Nat.{_+_, _≤_, ℕ}
 use lib.ListN.{length}
-use Rattle.circuit.specs.Entry.{after, numberOf, placeOf}
+use Rattle.circuit.specs.Replies.{after, numberOf, placeOf}
 use Rattle.circuit.specs.Faults.{badMove, lentFault, refuse}
 use Rattle.circuit.specs.Limits.{maxMembers, parities, tableBytes}
 use Rattle.circuit.specs.OddSet.{memberCount}

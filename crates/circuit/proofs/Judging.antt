@@ -11,10 +11,10 @@ use lib.ListN.{length}
 use borrow.Author.Tests.{eq-eqb, le-leb, lt-leb, ne-eqb}
 use Rattle.circuit.specs.Faults.{Accepted, AllWellFormed, FirstFault, Has, KindHas, KindWellFormed, WellFormed}
 use Rattle.circuit.specs.Faults.{cnotFault, firstFault, gateAt, gateFault, gateWire, kindFault, oneWireFault, refuse, sameWire}
-use Rattle.circuit.specs.Entry.{after, numberOf, placeOf}
 use Rattle.circuit.specs.Faults.{callReply, lentFault, listCallFault, listFault, listReply, orElse, shortFault, wiresFault}
 use Rattle.circuit.specs.Gate.{Gate, gate, gatesOf, kindOf}
 use Rattle.circuit.specs.Limits.{gateBytes, maxListBytes, maxWires}
+use Rattle.circuit.specs.Replies.{after, numberOf, placeOf}
 use Rattle.circuit.specs.declared.gates.Kind.{Kind}
 use Rattle.circuit.specs.declared.gates.Kind.the-variants.{Cnot, Phase, Unknown}
 use Rattle.circuit.specs.declared.Reply.{Reply}

@@ -1,25 +1,23 @@
 -- The laws of circuits on one page, for lists, replies and buffers as document 01 words them. The proofs are in the modules named.
 use mathlib.Core.List.{_++_, List, _∷_}
 use mathlib.Core.Logic.{_↔_, _⊎_}
-use mathlib.Core.Path.{ap, ap₂, refl, subst, sym, _∙_, _≡_}
+use mathlib.Core.Path.{ap, refl, sym, _∙_, _≡_}
 use Prim.Native.Nat.{_+_, _<_, _^_, ℕ, _≤_}
 use native.Mathlib.Nat.{zero-add}
 use native.Mathlib.Omega.{arith}
-use lib.ListN.{getD, length}
+use lib.ListN.{getD}
 use Rattle.circuit.proofs.Invertible.{distinct-independent, independent-distinct}
-use Rattle.circuit.proofs.Judging.{call-number, done-list, first-refused, lent-pass, lent-well, list-done, list-number}
-use Rattle.circuit.proofs.Judging.{or-pass, or-well, refused-first, zero-done}
+use Rattle.circuit.proofs.Judging.{call-number, first-refused, refused-first, zero-done}
 use Rattle.circuit.proofs.OddSet.{odd-set-at-most-t, t-moves-one}
 use Rattle.circuit.proofs.ReadRuns.{read-runs}
 use Rattle.circuit.proofs.Sound.{read-sound}
-use Rattle.circuit.specs.Entry.{ReadList, numberOf, readBytes, readLent, readReply}
-use Rattle.circuit.specs.Faults.{Accepted, AllWellFormed, FirstFault, WellFormed, callReply, firstFault, lentFault}
-use Rattle.circuit.specs.Gate.{Gate, gate, gatesOf, isT, tGates}
-use Rattle.circuit.specs.Lent.{readingLent}
+use Rattle.circuit.specs.Faults.{AllWellFormed, FirstFault, WellFormed, callReply, firstFault}
+use Rattle.circuit.specs.Gate.{Gate, gate, isT, tGates}
 use Rattle.circuit.specs.Limits.{logCells, maxGates, maxListBytes, maxMembers, maxWires, maxWrittenGates, moveCells, productBits}
 use Rattle.circuit.specs.Limits.{rowCells, tableBytes, writeBytes}
 use Rattle.circuit.specs.OddSet.{memberCount, oddSet}
-use Rattle.circuit.specs.Read.{Reading, read}
+use Rattle.circuit.specs.Read.{read}
+use Rattle.circuit.specs.Replies.{numberOf}
 use Rattle.circuit.specs.Run.{run}
 use Rattle.circuit.specs.Says.{endState, says}
 use Rattle.circuit.specs.Sound.{SoundReading}
@@ -52,21 +50,7 @@ one-t-moves-one = t-moves-one
 pub odd-set-no-larger : (N n : ℕ) → n ≤ N → (gs : List Gate) → AllWellFormed n gs → memberCount (oddSet (read N n gs .weights)) ≤ tGates gs
 odd-set-no-larger = odd-set-at-most-t
 
--- ---- demand 1: the reply of `read`
-
--- an accepted list is read: nothing sound is refused
-pub accepted-is-read : (n : ℕ) (bytes : List ℕ) (weights rows : ℕ) → Accepted n bytes → weights ≡ tableBytes → rows ≡ rowCells
-    → readReply n bytes weights rows ≡ Done
-accepted-is-read n bytes weights rows a w r =
-    done-list n bytes (readLent weights rows) a (or-well _ _ (lent-well weights tableBytes w) (lent-well rows rowCells r))
-
--- what is read is accepted: nothing faulty is
-pub read-is-accepted : (n : ℕ) (bytes : List ℕ) (weights rows : ℕ) → readReply n bytes weights rows ≡ Done
-    → Accepted n bytes × (weights ≡ tableBytes) × (rows ≡ rowCells)
-read-is-accepted n bytes weights rows e =
-    let a = list-done n bytes (readLent weights rows) e in
-    let b = or-pass (lentFault weights tableBytes) (lentFault rows rowCells) (a .1) in
-    (a .0, lent-pass weights tableBytes (b .0), lent-pass rows rowCells (b .1))
+-- ---- demand 1: the fault that a reply tells
 
 -- a gate's fault is the first of the list
 pub fault-is-first : (n : ℕ) (gs : List Gate) (number place : ℕ) → firstFault n 0 gs ≡ Refused number place → FirstFault n gs number place
@@ -86,32 +70,9 @@ fault-is-unique n gs f i g j a b =
     let p : 0 + i ≡ 0 + j = cc in
     (cc, omega arith)
 
--- number 0 says done, and nothing else does: of `read`, and of every call whose faults have place 0
+-- number 0 says done, and nothing else does: of every call whose faults have place 0
 pub call-reply-number : (f : ℕ) → (numberOf (callReply f) ≡ 0) ↔ (callReply f ≡ Done)
 call-reply-number f = (zero-done (callReply f) (λ number place. call-number f), λ e. ap numberOf e)
-
-pub read-number : (n : ℕ) (bytes : List ℕ) (weights rows : ℕ)
-    → (numberOf (readReply n bytes weights rows) ≡ 0) ↔ (readReply n bytes weights rows ≡ Done)
-read-number n bytes weights rows = (
-  zero-done (readReply n bytes weights rows) (λ number place. list-number n bytes (readLent weights rows)),
-  λ e. ap numberOf e,
-)
-
--- ---- what the promise of `read` means: after Done the outputs tell, for every basis state, where the list brings it and with which phase
-
-module _ (n : ℕ) (bytes weights rows weights′ rows′ : List ℕ) (r : ReadList n bytes weights rows weights′ rows′ Done) where
-  accepted : Accepted n bytes
-  accepted = read-is-accepted n bytes (length weights) (length rows) (sym (r .reply)) .0
-
-  is : readBytes n bytes ≡ readingLent weights′ rows′
-  is = ap₂ readingLent (sym (r .weights-left)) (sym (r .rows-left))
-
-  pub read-tells : (x : ℕ) → x < 2 ^ n → run (gatesOf bytes) x ≡ says n (readingLent weights′ rows′) x
-  read-tells x l = read-runs maxWires n (accepted .few) (gatesOf bytes) (accepted .formed) x l ∙ ap (λ (y : Reading). says n y x) is
-
-  pub read-leaves-sound : SoundReading maxWires n (readingLent weights′ rows′)
-  read-leaves-sound =
-      subst (λ (y : Reading). SoundReading maxWires n y) is (read-sound maxWires n (accepted .few) (gatesOf bytes) (accepted .formed))
 
 -- ---- the numbers that document 01 gives are those that follow from its wires, its gates and the bytes of a gate
 

@@ -10,5 +10,4 @@ pub mod OddSet
 pub mod Judging
 pub mod TableRule
 pub mod Steps
-pub mod ReadWays
 pub mod Laws

@@ -1,26 +1,17 @@
--- One turn, and the end, of each loop of the code, and each way out of a match, over plain numbers and lists.
-use mathlib.Core.List.{List, _∷_}
+-- One turn, and the end, of the loop that judges gates, and a shift, over plain numbers and lists.
+use mathlib.Core.List.{List}
 use mathlib.Core.Logic.{_≢_}
-use mathlib.Core.Path.{ap, refl, subst, sym, _∙_, _≡_}
-use Prim.Native.Nat.{_%_, _*_, _+_, _/_, _<_, _^_, suc, ℕ, _≤_}
+use mathlib.Core.Path.{sym, _∙_, _≡_}
+use Prim.Native.Nat.{_%_, _*_, _+_, _/_, _<_, _^_, suc, ℕ}
 use native.Mathlib.Nat.{mod-eq-of-lt, one-mul}
 use native.Mathlib.Numerals.{add-one}
-use native.Mathlib.Omega.{arith}
-use lib.Bits.{bitXor}
-use lib.ListN.{getD, length, set}
-use lib.Pow.{pow-lt, pow-mono}
-use Rattle.gf2.proofs.Table.{getD-tabulate}
-use Rattle.gf2.specs.Table.{addAt}
+use lib.ListN.{length}
+use lib.Pow.{pow-lt}
 use Rattle.circuit.proofs.Bytes.{gates-step, gates-tail, gatesFrom}
 use Rattle.circuit.proofs.Judging.{refused}
-use Rattle.circuit.proofs.Sound.{gate-keeps}
-use Rattle.circuit.specs.Faults.{AllWellFormed, KindWellFormed, firstFault, gateFault}
-use Rattle.circuit.specs.Gate.{Gate, byteGate, gate, kindOf}
+use Rattle.circuit.specs.Faults.{firstFault, gateFault}
+use Rattle.circuit.specs.Gate.{byteGate}
 use Rattle.circuit.specs.Limits.{gateBytes}
-use Rattle.circuit.specs.Read.{Reading, firstRow, firstRows, joinRows, readFrom, readKind, row, withRows, withWeights}
-use Rattle.circuit.specs.Sound.{SoundReading}
-use Rattle.circuit.specs.declared.gates.Kind.{Kind}
-use Rattle.circuit.specs.declared.gates.Kind.the-variants.{Cnot, Phase, Unknown}
 use Rattle.circuit.specs.declared.Reply.the-variants.{Done, Refused}
 
 -- ---- the first fault
@@ -37,86 +28,6 @@ module _ (n : ℕ) (bytes : List ℕ) (i : ℕ) (inside : gateBytes * i + 2 < le
 pub no-fault : (n : ℕ) (bytes : List ℕ) (i : ℕ) → i ≡ length bytes / gateBytes → Done ≡ firstFault n i (gatesFrom bytes i)
 unfolding firstFault
 no-fault n bytes i e = rw (gates-tail bytes i e)
-
--- ---- reading the list, gate by gate
-
--- gate i is to be read next: the gates from i on are well formed, the reading so far is sound, and what is left of the list gives
--- the whole from it
-abbrev pub ReadTo : ℕ → ℕ → List ℕ → Reading → ℕ → Reading → Type 0
-ReadTo N n bytes whole i r = AllWellFormed n (gatesFrom bytes i) × SoundReading N n r × (readFrom (gatesFrom bytes i) r ≡ whole)
-
--- a turn at that gate, from the reading so far
-pub record Turn (N n : ℕ) (bytes : List ℕ) (whole : Reading) (at : ℕ) (r : Reading) : Type 0 where
-  pub fit : n ≤ N
-  pub inside : gateBytes * at + 2 < length bytes
-  pub to : ReadTo N n bytes whole at r
-
-module _ {N n : ℕ} {bytes : List ℕ} {whole : Reading} {at : ℕ} {r : Reading} (turn : Turn N n bytes whole at r) where
-  pub rows-long : length (r .rows) ≡ N
-  rows-long = turn .to .1 .rows .long
-
-  -- a row is a parity
-  pub row-fits : (h : ℕ) → row r h < 2 ^ N
-  row-fits h = let m : 2 ^ n ≤ 2 ^ N = pow-mono (turn .fit) in omega (arith, turn .to .1 .rows .within h)
-
--- and its gate
-module _ {N n : ℕ} {bytes : List ℕ} {whole : Reading} {at : ℕ} {r : Reading} (turn : Turn N n bytes whole at r)
-    {kind a b : ℕ} (here : gate kind a b ≡ byteGate bytes at) where
-  step : AllWellFormed n (gate kind a b ∷ gatesFrom bytes (at + 1))
-  step =
-      subst (λ (g : Gate). AllWellFormed n (g ∷ gatesFrom bytes (at + 1))) (sym here)
-      (rw (gates-step bytes at (turn .inside)) at (turn .to .0))
-
-  -- its kind byte says k
-  module _ (k : Kind) (is : k ≡ kindOf kind) where
-    formed : KindWellFormed n k a b
-    formed = subst (λ (k : Kind). KindWellFormed n k a b) (sym is) (step .0)
-
-    read-on : (next : Reading) → next ≡ readKind k a b r → ReadTo N n bytes whole (at + 1) next
-    unfolding readFrom
-    read-on next e =
-        rw (e, is) (
-          step .1,
-          gate-keeps N n (turn .fit) (gate kind a b) r (step .0) (turn .to .1),
-          ap (λ (g : Gate). readFrom (g ∷ gatesFrom bytes (at + 1)) r) here
-              ∙ sym (ap (λ (gs : List Gate). readFrom gs r) (gates-step bytes at (turn .inside))) ∙ turn .to .2,
-        )
-
-  module _ (is : Cnot ≡ kindOf kind) where
-    pub cnot-wires : (a < N) × (b < N)
-    cnot-wires = let f = formed Cnot is in (omega (arith, f .0), omega (arith, f .1))
-
-    pub cnot-on : {rows′ : List ℕ} → rows′ ≡ joinRows a b (r .rows) → ReadTo N n bytes whole (at + 1) (withRows rows′ r)
-    unfolding readKind
-    cnot-on {rows′} e = read-on Cnot is (withRows rows′ r) (rw e)
-
-  module _ (v : ℕ) (is : Phase v ≡ kindOf kind) where
-    pub phase-wire : a < N
-    phase-wire = omega (arith, formed (Phase v) is .0)
-
-    -- p is the parity that wire a holds
-    pub phase-on : {p : ℕ} {w′ : List ℕ} → p ≡ row r a → w′ ≡ addAt 8 (r .weights) p v → ReadTo N n bytes whole (at + 1) (withWeights w′ r)
-    unfolding readKind
-    phase-on {p} {w′} d e = read-on (Phase v) is (withWeights w′ r) (rw (e, d))
-
-  pub unknown-on : Unknown ≡ kindOf kind → ReadTo N n bytes whole (at + 1) r
-  unfolding readKind
-  unknown-on is = read-on Unknown is r refl
-
--- j is b and holds p, i is a and holds q: the code stores their xor
-pub rows-joined : (rows : List ℕ) {rows′ : List ℕ} {i j p q a b : ℕ} → i ≡ a → j ≡ b → p ≡ getD rows j 0 → q ≡ getD rows i 0
-    → rows′ ≡ set rows j (bitXor p q) → rows′ ≡ joinRows a b rows
-rows-joined rows ei ej ep eq er = rw (er, ep, eq, ei, ej)
-
-pub reads-end : (bytes : List ℕ) (i : ℕ) (r : Reading) → i ≡ length bytes / gateBytes → r ≡ readFrom (gatesFrom bytes i) r
-unfolding readFrom
-reads-end bytes i r e = rw (gates-tail bytes i e)
-
--- ---- the first rows
-
-pub first-entry : (N n i : ℕ) → i < N → firstRow n i ≡ getD (firstRows N n) i 0
-unfolding firstRows
-first-entry N n i l = sym (getD-tabulate N (firstRow n) i l)
 
 -- a shifted one stays within the width
 pub shifted : (width i : ℕ) → i < width → 1 * 2 ^ i % 2 ^ width ≡ 2 ^ i

@@ -4,8 +4,8 @@ use mathlib.Core.Path.{_≡_}
 use Prim.Native.Nat.{_*_, _+_, ℕ}
 use lib.ListN.{drop, length, take}
 use Rattle.circuit.specs.Gate.{Gate, gatesOf}
-use Rattle.circuit.specs.Limits.{gateBytes}
-use Rattle.circuit.specs.Read.{Reading}
+use Rattle.circuit.specs.Limits.{gateBytes, maxWires}
+use Rattle.circuit.specs.Read.{Reading, read}
 
 -- ---- weights and rows
 
@@ -20,6 +20,10 @@ rowsLent r = r .rows
 -- the reading that lent weights and lent rows say
 abbrev pub readingLent : List ℕ → List ℕ → Reading
 readingLent weights rows = record { weights = weights; rows = rows }
+
+-- the weights and rows of a list of bytes
+abbrev pub readBytes : ℕ → List ℕ → Reading
+readBytes n bytes = read maxWires n (gatesOf bytes)
 
 -- ---- gates
 

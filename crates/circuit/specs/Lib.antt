@@ -8,4 +8,4 @@ pub mod OddSet
 pub mod Sound
 pub mod Faults
 pub mod TableFaults
-pub mod Entry
+pub mod Replies

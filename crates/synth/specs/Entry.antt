@@ -5,7 +5,7 @@ use mathlib.Core.Logic.{_≢_}
 use mathlib.Core.Path.{_≡_}
 use Prim.Native.Nat.{_*_, _≤_, suc, zero, ℕ}
 use lib.ListN.{length, take}
-use Rattle.circuit.specs.Entry.{numberOf}
+use Rattle.circuit.specs.Replies.{numberOf}
 use Rattle.circuit.specs.Faults.{Accepted, AllWellFormed, callReply}
 use Rattle.circuit.specs.Gate.{Gate, kindOf, tGates}
 use Rattle.circuit.specs.Lent.{KeptFrom, frontGates, readingLent}

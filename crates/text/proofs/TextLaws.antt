@@ -11,7 +11,7 @@ use lib.Seq.{take-append-seam}
 use borrow.Author.Tests.{eq-eqb, le-leb, lt-leb, ne-eqb}
 use Rattle.circuit.proofs.Bytes.{length-gates}
 use Rattle.circuit.proofs.Placing.{placed-kept}
-use Rattle.circuit.specs.Entry.{numberOf}
+use Rattle.circuit.specs.Replies.{numberOf}
 use Rattle.circuit.specs.Faults.{callReply, lentOutput, listLength, malformed, shortFault, wireCount, wiresFault}
 use Rattle.circuit.specs.Gate.{Gate, gate, gatesOf}
 use Rattle.circuit.specs.Lent.{KeptFrom}

@@ -4,9 +4,8 @@ use mathlib.Core.Path.{ap, ap₂, subst, sym, _∙_, _≡_}
 use Prim.Native.Nat.{_*_, ℕ}
 use lib.ListN.{length}
 use Rattle.circuit.proofs.Sound.{read-sound}
-use Rattle.circuit.specs.Entry.{readBytes}
 use Rattle.circuit.specs.Gate.{Gate, gatesOf, tGates}
-use Rattle.circuit.specs.Lent.{KeptFrom, frontGates, readingLent}
+use Rattle.circuit.specs.Lent.{KeptFrom, frontGates, readBytes, readingLent}
 use Rattle.circuit.specs.Limits.{gateBytes, maxMembers, maxWires, moveCells, parities}
 use Rattle.circuit.specs.OddSet.{memberCount, oddSet}
 use Rattle.circuit.specs.Read.{Reading, read}

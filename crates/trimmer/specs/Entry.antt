@@ -3,7 +3,7 @@ use mathlib.Core.List.{List}
 use mathlib.Core.Path.{_≡_}
 use Prim.Native.Nat.{_*_, _≤_, suc, zero, ℕ}
 use lib.ListN.{length}
-use Rattle.circuit.specs.Entry.{numberOf}
+use Rattle.circuit.specs.Replies.{numberOf}
 use Rattle.circuit.specs.Faults.{Accepted, listReply, orElse, shortFault}
 use Rattle.circuit.specs.Gate.{Gate, gatesOf}
 use Rattle.circuit.specs.Lent.{KeptFrom, frontGates}

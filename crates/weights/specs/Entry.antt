@@ -4,7 +4,7 @@ use mathlib.Core.List.{List}
 use mathlib.Core.Path.{_≡_}
 use Prim.Native.Nat.{ℕ}
 use lib.ListN.{length}
-use Rattle.circuit.specs.Entry.{after, numberOf}
+use Rattle.circuit.specs.Replies.{after, numberOf}
 use Rattle.circuit.specs.Faults.{callReply, lentFault, orElse}
 use Rattle.circuit.specs.Limits.{maxWires, pairBytes, parities, tableBytes, tripleBytes}
 use Rattle.circuit.specs.OddSet.{oddSet}

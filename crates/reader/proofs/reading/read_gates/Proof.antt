@@ -5,17 +5,16 @@ use native.Mathlib.Omega.{arith}
 use lib.ListN.{length}
 use borrow.Author.Needs.{needs}
 use denote.Ref.{now}
 use Rattle.circuit.proofs.GateKinds.{phase-lt}
 use Rattle.circuit.proofs.Sound.{start-sound}
-use Rattle.circuit.proofs.Steps.{ReadTo, Turn, cnot-on, cnot-wires, phase-on, phase-wire, reads-end, row-fits, rows-long, unknown-on}
-use Rattle.circuit.specs.Entry.{readBytes}
+use Rattle.reader.proofs.Turns.{ReadTo, Turn, cnot-on, cnot-wires, phase-on, phase-wire, reads-end, row-fits, rows-long, unknown-on}
 use Rattle.circuit.specs.Gate.{gatesOf}
-use Rattle.circuit.specs.Lent.{readingLent}
+use Rattle.circuit.specs.Lent.{readBytes, readingLent}
 use Rattle.circuit.specs.Limits.{gateBytes, maxWires}
 use Rattle.circuit.specs.Read.{Reading, noWeights, readFrom}
 use Rattle.circuit.specs.Sound.{SoundReading}
-use Rattle.circuit.proofs.reading.read_gates.Statement.{statement}
-use Rattle.circuit.proofs.reading.read_gates.Tie as tie
+use Rattle.reader.proofs.reading.read_gates.Statement.{statement}
+use Rattle.reader.proofs.reading.read_gates.Tie as tie
 
 abbrev Inv-loop : tie.InvT-loop
 Inv-loop n gates weights₀ rows₀ m g₀ weights rows g =

@@ -1,9 +1,9 @@
 -- The two lengths lent, one after the other.
 use mathlib.Core.Path.{ap₂, _∙_}
 use borrow.Author.Needs.{needs}
 use Rattle.circuit.specs.Faults.{orElse}
-use Rattle.circuit.proofs.read_lent.Statement.{statement}
-use Rattle.circuit.proofs.read_lent.Tie as tie
+use Rattle.reader.proofs.read_lent.Statement.{statement}
+use Rattle.reader.proofs.read_lent.Tie as tie
 
 returns : tie.Need-returns
 returns c =

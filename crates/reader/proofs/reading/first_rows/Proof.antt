@@ -5,13 +5,13 @@ use native.Mathlib.Omega.{arith}
 use lib.ListN.{length, replicate}
 use borrow.Author.Needs.{needs}
 use Rattle.gf2.proofs.Table.{Filled, filled-all, filled-none}
 use Rattle.circuit.proofs.Filling.{put-filled, put-long}
 use Rattle.circuit.proofs.Sound.{length-first}
-use Rattle.circuit.proofs.Steps.{first-entry}
+use Rattle.reader.proofs.Turns.{first-entry}
 use Rattle.circuit.specs.Limits.{maxWires}
 use Rattle.circuit.specs.Read.{firstRows}
-use Rattle.circuit.proofs.reading.first_rows.Statement.{statement}
-use Rattle.circuit.proofs.reading.first_rows.Tie as tie
+use Rattle.reader.proofs.reading.first_rows.Statement.{statement}
+use Rattle.reader.proofs.reading.first_rows.Tie as tie
 
 abbrev Inv-loop : tie.InvT-loop
 Inv-loop n rows₀ i₀ rows i = (i ≤ maxWires) × (length rows ≡ maxWires) × Filled rows (firstRows maxWires n) i

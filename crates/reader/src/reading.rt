@@ -1,24 +1,25 @@
 // Reading gates that have no fault into weights and rows (document 01, "Weights and rows").
 ghost use mathlib.Core.Path.{_≡_};
 ghost use Prim.Native.Nat.{_<_, _≤_};
 ghost use Rattle.circuit.specs.Limits.{maxWires};
 ghost use Rattle.circuit.specs.Gate.{gatesOf};
+ghost use Rattle.circuit.specs.Lent.{readBytes};
 ghost use Rattle.gf2.specs.Table.{addAt};
 ghost use Rattle.circuit.specs.Read.{firstRow, firstRows, joinRows};
 ghost use Rattle.circuit.specs.Faults.{AllWellFormed};
-ghost use Rattle.circuit.specs.Entry.{Addable, Joinable, readingOf, readBytes};
-use crate::cells::cell_at;
-use crate::cells::put_cell;
-use crate::gates::Kind;
-use crate::gates::gate_at;
-use crate::gates::kind_of;
-use crate::limits::GATE_BYTES;
-use crate::limits::MAX_WIRES;
-use crate::limits::Parity;
-use crate::limits::TABLE_BYTES;
-use crate::limits::Weight;
-use crate::parity::index_of;
-use crate::parity::unit;
+ghost use Rattle.reader.specs.Entry.{Addable, Joinable, readingOf};
+use circuit::cells::cell_at;
+use circuit::cells::put_cell;
+use circuit::gates::Kind;
+use circuit::gates::gate_at;
+use circuit::gates::kind_of;
+use circuit::limits::GATE_BYTES;
+use circuit::limits::MAX_WIRES;
+use circuit::limits::Parity;
+use circuit::limits::TABLE_BYTES;
+use circuit::limits::Weight;
+use circuit::parity::index_of;
+use circuit::parity::unit;
 
 // The weights and rows of a list, as the code keeps them.
 pub struct WeightsRows {

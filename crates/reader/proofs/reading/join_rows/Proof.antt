@@ -1,9 +1,9 @@
 -- The target's row, by the two cells and the store.
 use borrow.Author.Needs.{needs}
 use denote.Ref.{now}
-use Rattle.circuit.proofs.Steps.{rows-joined}
-use Rattle.circuit.proofs.reading.join_rows.Statement.{statement}
-use Rattle.circuit.proofs.reading.join_rows.Tie as tie
+use Rattle.reader.proofs.Turns.{rows-joined}
+use Rattle.reader.proofs.reading.join_rows.Statement.{statement}
+use Rattle.reader.proofs.reading.join_rows.Tie as tie
 
 returns : tie.Need-returns
 returns c =

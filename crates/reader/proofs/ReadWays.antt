@@ -3,17 +3,17 @@ use mathlib.Core.List.{List}
 use mathlib.Core.Path.{ap, sym, _∙_, _≡_}
 use Prim.Native.Nat.{ℕ}
 use lib.ListN.{length}
 use Rattle.circuit.proofs.Judging.{after-refusal, lent-pass, list-done, list-number, or-pass}
 use Rattle.circuit.proofs.Sound.{read-sound}
-use Rattle.circuit.specs.Entry.{ReadInto, ReadList, ReadOut, readBytes, readLent, readReply}
+use Rattle.reader.specs.Entry.{ReadInto, ReadList, ReadOut, readLent, readReply}
 use Rattle.circuit.specs.Faults.{lentFault}
 use Rattle.circuit.specs.Gate.{gatesOf}
-use Rattle.circuit.specs.Lent.{readingLent}
+use Rattle.circuit.specs.Lent.{readBytes, readingLent}
 use Rattle.circuit.specs.Limits.{maxWires, rowCells, tableBytes}
 use Rattle.circuit.specs.Read.{Reading}
 use Rattle.circuit.specs.Sound.{SoundReading}
 use Rattle.circuit.specs.declared.Reply.{Reply}
 use Rattle.circuit.specs.declared.Reply.the-variants.{Done, Refused}
 
 module _ {n : ℕ} {g w s : List ℕ} {found : Reply} (judged : found ≡ readReply n g (length w) (length s)) where
   pub read-refused : {number place : ℕ} → found ≡ Refused number place → ReadList n g w s w s (Refused number place)

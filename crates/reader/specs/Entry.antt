@@ -1,33 +1,19 @@
 -- The entry `read`: its reply and what it leaves in the lent buffers, for sound and faulty arguments alike.
 use mathlib.Core.List.{List}
 use mathlib.Core.Path.{_≡_}
-use Prim.Native.Nat.{_<_, suc, zero, ℕ}
+use Prim.Native.Nat.{_<_, ℕ}
 use lib.ListN.{getD, length}
 use Rattle.circuit.specs.Faults.{Accepted, lentFault, listReply, orElse}
-use Rattle.circuit.specs.Gate.{gatesOf}
-use Rattle.circuit.specs.Lent.{readingLent, rowsLent, weightsLent}
+use Rattle.circuit.specs.Lent.{readBytes, readingLent, rowsLent, weightsLent}
 use Rattle.circuit.specs.Limits.{maxWires, parities, rowCells, tableBytes}
-use Rattle.circuit.specs.Read.{Reading, read}
+use Rattle.circuit.specs.Read.{Reading}
+use Rattle.circuit.specs.Replies.{after, numberOf}
 use Rattle.circuit.specs.declared.Reply.{Reply}
-use Rattle.circuit.specs.declared.Reply.the-variants.{Done, Refused}
-use Rattle.circuit.specs.declared.reading.WeightsRows.{WeightsRows}
-
--- document 01's number of a reply, 0 for none, and its place
-abbrev pub numberOf : Reply → ℕ
-numberOf Done = 0
-numberOf (Refused number place) = number
-
-abbrev pub placeOf : Reply → ℕ
-placeOf Done = 0
-placeOf (Refused number place) = place
+use Rattle.reader.specs.declared.reading.WeightsRows.{WeightsRows}
 
 -- the code's weights and rows are a reading
 abbrev pub readingOf : WeightsRows → Reading
 readingOf t = readingLent (t .weights) (t .rows)
-
--- the weights and rows of a list of bytes
-abbrev pub readBytes : ℕ → List ℕ → Reading
-readBytes n bytes = read maxWires n (gatesOf bytes)
 
 -- 8, by the lengths of the weights and the rows lent
 abbrev pub readLent : ℕ → ℕ → ℕ
@@ -60,11 +46,6 @@ pub record Addable (weights : List ℕ) (p v : ℕ) : Type 0 where
 pub record ReadOut (n : ℕ) (bytes weights rows : List ℕ) : Type 0 where
   pub weights-are : weights ≡ weightsLent (readBytes n bytes)
   pub rows-are : rows ≡ rowsLent (readBytes n bytes)
-
--- a lent buffer after a reply of that number: what is to be written where there is no fault, else as it was
-abbrev pub after : ℕ → List ℕ → List ℕ → List ℕ
-after zero written was = written
-after (suc fault) written was = was
 
 -- `read`, called with these bytes, weights and rows, replies r and leaves weights′ and rows′
 pub record ReadList (n : ℕ) (bytes weights rows weights′ rows′ : List ℕ) (r : Reply) : Type 0 where

@@ -3,11 +3,11 @@ use mathlib.Core.Path.{ap, _∙_, _≡_}
 use borrow.Author.Needs.{needs}
 use denote.Ref.{now}
 use lib.ListN.{length}
-use Rattle.circuit.proofs.ReadWays.{may-read, read-done, read-refused}
-use Rattle.circuit.specs.Entry.{readReply}
+use Rattle.reader.proofs.ReadWays.{may-read, read-done, read-refused}
+use Rattle.reader.specs.Entry.{readReply}
 use Rattle.circuit.specs.Faults.{listReply}
-use Rattle.circuit.proofs.read.Statement.{statement}
-use Rattle.circuit.proofs.read.Tie as tie
+use Rattle.reader.proofs.read.Statement.{statement}
+use Rattle.reader.proofs.read.Tie as tie
 
 -- the judge is asked, and the entry seen from there
 abbrev entry : tie.After-list-reply → tie.Start

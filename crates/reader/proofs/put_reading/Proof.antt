@@ -1,8 +1,8 @@
 -- What was read, copied out.
 use borrow.Author.Needs.{needs}
-use Rattle.circuit.proofs.ReadWays.{read-out, rows-fit, weights-fit}
-use Rattle.circuit.proofs.put_reading.Statement.{statement}
-use Rattle.circuit.proofs.put_reading.Tie as tie
+use Rattle.reader.proofs.ReadWays.{read-out, rows-fit, weights-fit}
+use Rattle.reader.proofs.put_reading.Statement.{statement}
+use Rattle.reader.proofs.put_reading.Tie as tie
 
 read-gates-requires : tie.Need-read-gates-requires
 read-gates-requires c κs = let s : tie.Start = search in (s .pre .accepted .few, s .pre .accepted .formed)

@@ -1,8 +1,8 @@
 -- A weight and a phase below 8 fit a byte together.
 use native.Mathlib.Omega.{arith}
 use borrow.Author.Needs.{needs}
-use Rattle.circuit.proofs.reading.add_phase.Statement.{statement}
-use Rattle.circuit.proofs.reading.add_phase.Tie as tie
+use Rattle.reader.proofs.reading.add_phase.Statement.{statement}
+use Rattle.reader.proofs.reading.add_phase.Tie as tie
 
 add-weights : tie.Need-add-weights
 add-weights c = let s : tie.Start = search in record { fits = omega (arith, s .pre .small, s .pre .phase) }

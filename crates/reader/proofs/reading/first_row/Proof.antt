@@ -2,8 +2,8 @@
 use native.Mathlib.Omega.{arith}
 use borrow.Author.Needs.{needs}
 use borrow.Author.Tests.{le-ltb, lt-ltb}
-use Rattle.circuit.proofs.reading.first_row.Statement.{statement}
-use Rattle.circuit.proofs.reading.first_row.Tie as tie
+use Rattle.reader.proofs.reading.first_row.Statement.{statement}
+use Rattle.reader.proofs.reading.first_row.Tie as tie
 
 returns : tie.Need-returns
 returns c =
