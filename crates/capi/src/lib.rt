@@ -3,7 +3,8 @@
 ghost use mathlib.Core.Path.{_≡_};
 ghost use Rattle.circuit.specs.Replies.{numberOf, placeOf};
 ghost use Rattle.reader.specs.Entry.{ReadList};
-ghost use Rattle.weights.specs.Entry.{OddSetOf, CoefficientsOf, NewWeightsOf};
+ghost use Rattle.rests.specs.Entry.{NewWeightsOf};
+ghost use Rattle.weights.specs.Entry.{OddSetOf, CoefficientsOf};
 ghost use Rattle.carry.specs.Entry.{CarriesOut};
 ghost use Rattle.finder.specs.Entry as find;
 ghost use Rattle.synth.specs.Entry as write;
@@ -123,7 +124,7 @@ pub extern "C" fn sulmedra_coefficients(
     in_c(weights::coefficients(n, weights, l, q, c))
 }
 
-// `weights::new_weights`.
+// `rests::new_weights`.
 #[no_mangle]
 pub extern "C" fn sulmedra_new_weights(
     n: usize,
@@ -134,7 +135,7 @@ pub extern "C" fn sulmedra_new_weights(
     ensures { λ r. ⌜ InC (NewWeightsOf n (now (weights .entry)) (now (marks .entry)) (now (out .entry)) (now (out .exit)))
         (r .number) (r .place) ⌝ }
 {
-    in_c(weights::new_weights(n, weights, marks, out))
+    in_c(rests::new_weights(n, weights, marks, out))
 }
 
 // `carry::carry_out`.

@@ -1,7 +1,7 @@
 -- The fault definitions by cases, and what no fault means. A list is judged Done exactly if all its gates are well formed;
 -- a fault that is found is the first of the list, and the only one that is first.
 use mathlib.Core.List.{List, [], _∷_}
-use mathlib.Core.Logic.{inl, inr, _≢_, _⊎_}
+use mathlib.Core.Logic.{inl, inr, _↔_, _≢_, _⊎_}
 use mathlib.Core.Path.{_≡_, ap, refl, sym, _∙_}
 use Prim.Native.Nat.{_%_, _+_, _<_, suc, zero, ℕ, _≤_}
 use native.Mathlib.Decide.{decLe, ℕ-discrete}
@@ -251,6 +251,10 @@ refused-not-done number place e = let z : _≡_ {A = ℕ} 0 1 = cc in omega arit
 pub refuse-done : (f i : ℕ) (rest : Reply) → refuse f i rest ≡ Done → (f ≡ 0) × (rest ≡ Done)
 refuse-done zero i rest e = (refl, e)
 refuse-done (suc f) i rest e = absurd (refused-not-done (suc f) i e)
+
+-- a call is accepted exactly where it has no fault
+pub call-accepts : {P : Type 0} (f : ℕ) → (f ≡ 0) ↔ P → (callReply f ≡ Done) ↔ P
+call-accepts f i = (λ e. i .0 (refuse-done f 0 Done e .0), λ p. rw (i .1 p))
 
 pub refused : (f i : ℕ) (rest : Reply) → f ≢ 0 → refuse f i rest ≡ Refused f i
 refused zero i rest h = absurd (h refl)

@@ -25,9 +25,9 @@ use circuit::limits::TABLE_BYTES;
 use circuit::limits::Weight;
 use finder::search;
 use moves::Sought;
+use rests::weighing::put_new_weights;
 use synth::write_sound;
 use weights::put_odd_set;
-use weights::rests::put_new_weights;
 
 // The odd set of weights.
 pub fn odd_marks(w: [Weight; TABLE_BYTES]) -> [Mark; TABLE_BYTES]

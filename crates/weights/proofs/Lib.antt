@@ -3,6 +3,4 @@ pub mod Signed
 pub mod OneSum
 pub mod Ways
 pub mod Places
-pub mod Difference
-pub mod RestSteps
 pub mod Laws

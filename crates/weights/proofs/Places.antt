@@ -1,4 +1,4 @@
--- Where the lists of coefficients and of rests keep what: place i for a wire, N j + i for two, N N k + N j + i for three.
+-- Where the lists of coefficients keep what: place i for a wire, N j + i for two, N N k + N j + i for three.
 use mathlib.Core.List.{List}
 use mathlib.Core.Path.{sym, _∙_, _≡_}
 use Prim.Native.Nat.{_%_, _*_, _+_, _/_, _<_, ℕ, _≤_}
@@ -7,11 +7,9 @@ use native.Mathlib.Omega.{arith}
 use lib.Arith.{digits-div, digits-mod}
 use lib.ListN.{getD, length}
 use borrow.Author.Tests.{lt-ltb}
-use Rattle.circuit.specs.Sound.{weight}
 use Rattle.gf2.proofs.Table.{getD-tabulate, length-tabulate}
 use Rattle.phase.specs.Coefficients.{c, l, q}
 use Rattle.weights.specs.Lists.{cList, entryOf, lList, listOf, qList, sizeOf}
-use Rattle.weights.specs.Rests.{oneIn, oneRests, weightIn, weightsIn}
 use Rattle.weights.specs.declared.lists.Degree.{Degree}
 use Rattle.weights.specs.declared.lists.Degree.the-variants.{One, Three, Two}
 
@@ -25,24 +23,6 @@ module _ (N n : ℕ) (w : List ℕ) (of : Degree) where
   pub list-at : (p : ℕ) → p < sizeOf N of → entryOf N n w of p ≡ getD (listOf N n w of) p 0
   unfolding listOf
   list-at p h = sym (getD-tabulate (sizeOf N of) (entryOf N n w of) p h)
-
-module _ (N n : ℕ) (d qs : List ℕ) where
-  pub length-one : length (oneRests N n d qs) ≡ N
-  unfolding oneRests
-  length-one = length-tabulate N (oneIn N n d qs)
-
-  pub one-at : (i : ℕ) → i < N → oneIn N n d qs i ≡ getD (oneRests N n d qs) i 0
-  unfolding oneRests
-  one-at i h = sym (getD-tabulate N (oneIn N n d qs) i h)
-
-module _ (size N n : ℕ) (one qs u : List ℕ) where
-  pub length-weights : length (weightsIn size N n one qs u) ≡ size
-  unfolding weightsIn
-  length-weights = length-tabulate size (λ p. weightIn N n one qs (weight u p) p)
-
-  pub weights-at : (p : ℕ) → p < size → weightIn N n one qs (weight u p) p ≡ weight (weightsIn size N n one qs u) p
-  unfolding weightsIn
-  weights-at p h = sym (getD-tabulate size (λ p. weightIn N n one qs (weight u p) p) p h)
 
 -- ---- the place of two wires, and of three
 

@@ -7,12 +7,11 @@ use Prim.Native.Nat.{ℕ, _≤_}
 use native.Mathlib.Omega.{arith}
 use lib.ListN.{length}
 use Rattle.circuit.proofs.Judging.{lent-pass, lent-well, or-pass, or-well}
-use Rattle.circuit.proofs.TableRule.{marks-sound, weights-passes}
+use Rattle.circuit.proofs.TableRule.{weights-passes}
 use Rattle.circuit.specs.Faults.{lentFault, orElse}
 use Rattle.circuit.specs.Limits.{maxWires, pairBytes, parities, tableBytes, tripleBytes}
-use Rattle.circuit.specs.Sound.{SoundMarks, SoundWeights}
-use Rattle.circuit.specs.TableFaults.{marksFault}
-use Rattle.weights.specs.Entry.{coefficientsFault, listsFault, newWeightsFault, oddSetFault}
+use Rattle.circuit.specs.Sound.{SoundWeights}
+use Rattle.weights.specs.Entry.{coefficientsFault, listsFault, oddSetFault}
 use Rattle.weights.specs.Lists.{ListsFit}
 
 -- a wire count that is no fault
@@ -47,15 +46,6 @@ coefficients-passes n w l q c = (
   λ s. weights-passes n (listsFault l q c) w .1 (s .0, lists-passes l q c .1 (s .1), s .2),
 )
 
-pub new-weights-passes : (n : ℕ) (w marks : List ℕ) (out : ℕ)
-    → (newWeightsFault n w marks out ≡ 0) ↔ (Wires n × (out ≡ tableBytes) × (SoundWeights parities n w × SoundMarks parities n marks))
-new-weights-passes n w marks out = (
-  λ e. let a = or-pass (oddSetFault n w out) (marksFault n marks) e in
-      let b = odd-set-passes n w out .0 (a .0) in
-      (b .0, b .1, (b .2, marks-sound parities n marks .0 (a .1))),
-  λ s. or-well _ _ (odd-set-passes n w out .1 (s .0, s .1, s .2 .0)) (marks-sound parities n marks .1 (s .2 .1)),
-)
-
 -- ---- what the writers need, where the fault f that was found is none
 
 pub odd-fits : (n : ℕ) (w m : List ℕ) (f : ℕ) → f ≡ oddSetFault n w (length m) → f ≡ 0 → length w ≡ length m
@@ -65,7 +55,3 @@ pub lists-fit : (n : ℕ) (w l q c : List ℕ) (f : ℕ) → f ≡ coefficientsF
 lists-fit n w l q c f e z =
     let a = coefficients-passes n w (length l) (length q) (length c) .0 (sym e ∙ z) in
     record { weights-fit = omega (arith, a .2 .long); l-fits = a .1 .0; q-fits = a .1 .1; c-fits = a .1 .2 }
-
-pub new-fits : (n : ℕ) (w m out : List ℕ) (f : ℕ) → f ≡ newWeightsFault n w m (length out) → f ≡ 0
-    → (n ≤ maxWires) × SoundWeights parities n w × SoundMarks parities n m × (length out ≡ tableBytes)
-new-fits n w m out f e z = let a = new-weights-passes n w m (length out) .0 (sym e ∙ z) in (a .0 .1, a .2 .0, a .2 .1, a .1)

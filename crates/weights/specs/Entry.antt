@@ -1,16 +1,14 @@
--- The entries `odd_set`, `coefficients` and `new_weights`: the reply of each, and what it leaves in the lent buffers, for sound and faulty
--- arguments alike.
+-- The entries `odd_set` and `coefficients`: the reply of each and what it leaves in the lent buffers, for sound and faulty arguments alike.
 use mathlib.Core.List.{List}
 use mathlib.Core.Path.{_≡_}
 use Prim.Native.Nat.{ℕ}
 use lib.ListN.{length}
-use Rattle.circuit.specs.Replies.{after, numberOf}
 use Rattle.circuit.specs.Faults.{callReply, lentFault, orElse}
-use Rattle.circuit.specs.Limits.{maxWires, pairBytes, parities, tableBytes, tripleBytes}
+use Rattle.circuit.specs.Limits.{maxWires, pairBytes, tableBytes, tripleBytes}
 use Rattle.circuit.specs.OddSet.{oddSet}
-use Rattle.circuit.specs.TableFaults.{callFault, marksFault, weightsFault}
+use Rattle.circuit.specs.Replies.{after, numberOf}
+use Rattle.circuit.specs.TableFaults.{callFault, weightsFault}
 use Rattle.circuit.specs.declared.Reply.{Reply}
-use Rattle.phase.specs.NewWeights.{newWeights}
 use Rattle.weights.specs.Lists.{cList, lList, qList}
 
 -- ---- odd_set
@@ -40,14 +38,3 @@ pub record CoefficientsOf (n : ℕ) (weights l q c l′ q′ c′ : List ℕ) (r
   pub l-left : l′ ≡ after (numberOf r) (lList maxWires n weights) l
   pub q-left : q′ ≡ after (numberOf r) (qList maxWires n weights) q
   pub c-left : c′ ≡ after (numberOf r) (cList maxWires n weights) c
-
--- ---- new_weights
-
--- 1, 8, 6, by the weights, the marks and the length of the output lent
-abbrev pub newWeightsFault : ℕ → List ℕ → List ℕ → ℕ → ℕ
-newWeightsFault n w marks out = orElse (callFault n (lentFault out tableBytes) (weightsFault n w)) (marksFault n marks)
-
--- `new_weights`, called with these weights, marks and output, replies r and leaves out′
-pub record NewWeightsOf (n : ℕ) (weights marks out out′ : List ℕ) (r : Reply) : Type 0 where
-  pub reply : r ≡ callReply (newWeightsFault n weights marks (length out))
-  pub out-left : out′ ≡ after (numberOf r) (newWeights parities n weights marks) out

@@ -1,4 +1,3 @@
 pub mod Sums
 pub mod Lists
-pub mod Rests
 pub mod Entry

@@ -1,16 +1,14 @@
 // The faults of the calls of this crate, by what they bring and the lengths lent. Each function gives the fault's number, and 0 where there
 // is none.
 ghost use mathlib.Core.Path.{_≡_};
-ghost use Rattle.weights.specs.Entry.{coefficientsFault, newWeightsFault, oddSetFault, listsFault};
+ghost use Rattle.weights.specs.Entry.{coefficientsFault, oddSetFault, listsFault};
 use circuit::faults::lent_fault;
 use circuit::faults::or_else;
 use circuit::limits::MAX_WIRES;
-use circuit::limits::Mark;
 use circuit::limits::PAIR_BYTES;
 use circuit::limits::TABLE_BYTES;
 use circuit::limits::TRIPLE_BYTES;
 use circuit::limits::Weight;
-use circuit::table_faults::marks_fault;
 use circuit::table_faults::weights_call_fault;
 
 // The fault of a call of `odd_set`, by the weights and the length of the marks lent.
@@ -25,16 +23,6 @@ pub fn coefficients_fault(n: usize, weights: &[Weight], l: usize, q: usize, c: u
     ensures { λ r. ⌜ r ≡ coefficientsFault n (now (weights .entry)) l q c ⌝ }
 {
     weights_call_fault(n, lists_fault(l, q, c), weights)
-}
-
-// The fault of a call of `new_weights`, by the weights, the marks and the length of the output lent.
-pub fn new_weights_fault(n: usize, weights: &[Weight], marks: &[Mark], out: usize) -> u8
-    ensures { λ r. ⌜ r ≡ newWeightsFault n (now (weights .entry)) (now (marks .entry)) out ⌝ }
-{
-    or_else(
-        weights_call_fault(n, lent_fault(out, TABLE_BYTES), weights),
-        marks_fault(n, marks),
-    )
 }
 
 // Fault 8 of the lists lent for the coefficients, by their lengths.

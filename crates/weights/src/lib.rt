@@ -1,13 +1,12 @@
-// Weights: their odd set, their coefficients, and the new weights of document 01 for a circuit's weights and an odd set.
-// Public entries: `odd_set`, `coefficients`, `new_weights`. Their promises are the records of specs/Entry; proofs/Laws says what they mean.
+// Weights: their odd set and their coefficients (document 01, "Signature").
+// Public entries: `odd_set`, `coefficients`. Their promises are the records of specs/Entry; proofs/Laws says what they mean.
 ghost use mathlib.Core.Path.{_≡_};
 ghost use lib.ListN.{length};
 ghost use Rattle.circuit.specs.OddSet.{oddSet};
-ghost use Rattle.weights.specs.Entry.{OddSetOf, CoefficientsOf, NewWeightsOf};
+ghost use Rattle.weights.specs.Entry.{OddSetOf, CoefficientsOf};
 
 pub mod faults;
 pub mod lists;
-pub mod rests;
 pub mod sums;
 
 use circuit::Reply;
@@ -15,10 +14,8 @@ use circuit::limits::Coefficient;
 use circuit::limits::Mark;
 use circuit::limits::Weight;
 use faults::coefficients_fault;
-use faults::new_weights_fault;
 use faults::odd_set_fault;
 use lists::put_lists;
-use rests::put_new_weights;
 
 // The odd set of weights. A refusal leaves the marks as they were.
 pub fn odd_set(n: usize, weights: &[Weight], marks: &mut [Mark]) -> Reply
@@ -55,21 +52,6 @@ pub fn coefficients(
         };
     }
     put_lists(n, weights, l, q, c);
-    Reply::Done
-}
-
-// The new weights for a circuit's weights and an odd set. A refusal leaves the output as it was.
-pub fn new_weights(n: usize, weights: &[Weight], marks: &[Mark], out: &mut [Weight]) -> Reply
-    ensures { λ r. ⌜ NewWeightsOf n (now (weights .entry)) (now (marks .entry)) (now (out .entry)) (now (out .exit)) r ⌝ }
-{
-    let fault = new_weights_fault(n, weights, marks, out.len());
-    if fault != 0 {
-        return Reply::Refused {
-            number: fault,
-            place: 0,
-        };
-    }
-    put_new_weights(n, weights, marks, out);
     Reply::Done
 }
 

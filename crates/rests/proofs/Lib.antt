@@ -1,0 +1,5 @@
+pub mod Tables
+pub mod Difference
+pub mod RestSteps
+pub mod Ways
+pub mod Laws
