@@ -12,12 +12,12 @@ use Rattle.circuit.proofs.GateKinds.{kind-above, t-is-odd}
 use Rattle.circuit.proofs.Judging.{call-number, call-told, refuse-done, short-pass}
 use Rattle.circuit.proofs.Laws.{fault-is-first, odd-set-no-larger}
 use Rattle.circuit.proofs.Placing.{placed-kept}
-use Rattle.circuit.specs.Replies.{numberOf, placeOf}
 use Rattle.circuit.specs.Faults.{AllWellFormed, Has, KindHas, KindWellFormed, WellFormed, firstFault, gateAt, lentOutput}
 use Rattle.circuit.specs.Faults.{sameWire, shortFault}
 use Rattle.circuit.specs.Gate.{Gate, bytesOf, gate, gatesOf, kindOf, lastKind, tGates}
 use Rattle.circuit.specs.Lent.{KeptFrom}
 use Rattle.circuit.specs.Limits.{maxGates, maxWires, maxWrittenGates}
+use Rattle.circuit.specs.Replies.{numberOf, placeOf}
 use Rattle.circuit.specs.declared.Reply.{Reply}
 use Rattle.circuit.specs.declared.Reply.the-variants as reply
 use Rattle.circuit.specs.declared.gates.Kind.{Kind}

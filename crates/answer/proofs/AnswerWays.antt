@@ -10,11 +10,11 @@ use borrow.Author.Tests.{lt-leb}
 use Rattle.circuit.proofs.Bytes.{gates-in}
 use Rattle.circuit.proofs.Judging.{or-well, passes-list-call, short-well}
 use Rattle.circuit.proofs.TableRule.{call-done, call-refusal}
-use Rattle.circuit.specs.Replies.{numberOf}
 use Rattle.circuit.specs.Faults.{firstFault, lentOutput, listCallFault, refuse, shortFault}
 use Rattle.circuit.specs.Gate.{gatesOf}
 use Rattle.circuit.specs.Lent.{frontGates}
 use Rattle.circuit.specs.Limits.{gateBytes, logCells, maxListBytes, writeBytes}
+use Rattle.circuit.specs.Replies.{numberOf}
 use Rattle.circuit.specs.declared.Reply.{Reply}
 use Rattle.circuit.specs.declared.Reply.the-variants as reply
 use Rattle.text.proofs.TextLaws.{CircuitRead, done-reads, with-room}

@@ -6,8 +6,8 @@ use lib.ListN.{length}
 use Rattle.answer.specs.Printed.{Prints}
 use Rattle.answer.specs.declared.Answered.{Answered}
 use Rattle.answer.specs.declared.Answered.the-variants.{Done, Refused}
-use Rattle.circuit.specs.Replies.{numberOf}
 use Rattle.circuit.specs.Faults.{callReply, shortFault}
+use Rattle.circuit.specs.Replies.{numberOf}
 use Rattle.circuit.specs.declared.Reply.{Reply}
 use Rattle.circuit.specs.declared.Reply.the-variants as reply
 use Rattle.text.specs.Limits.{replyBytes}

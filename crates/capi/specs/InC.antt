@@ -7,9 +7,9 @@ use lib.Dec.{leb}
 use lib.ListN.{drop, length, take}
 use Rattle.answer.specs.Entry as answer
 use Rattle.answer.specs.declared.Answered.{Answered}
-use Rattle.circuit.specs.Replies.{numberOf, placeOf}
 use Rattle.circuit.specs.Limits.{moveCells}
 use Rattle.circuit.specs.Read.{either}
+use Rattle.circuit.specs.Replies.{numberOf, placeOf}
 use Rattle.circuit.specs.declared.Reply.{Reply}
 use Rattle.finder.specs.Entry as find
 use Rattle.finder.specs.declared.Finding.{Finding}

@@ -7,9 +7,9 @@ use Prim.Native.Nat.{_*_, _+_, _<_, _≤_, ℕ}
 use native.Mathlib.Omega.{arith}
 use lib.ListN.{drop, length, take}
 use Rattle.circuit.proofs.Judging.{after-refusal, done-number, refusal-number, refuse-done, refused, refused-not-done}
-use Rattle.circuit.specs.Replies.{after, numberOf}
 use Rattle.circuit.specs.Faults.{badMove, refuse}
 use Rattle.circuit.specs.Limits.{maxMembers, moveCells}
+use Rattle.circuit.specs.Replies.{after, numberOf}
 use Rattle.circuit.specs.TableFaults.{Marked}
 use Rattle.circuit.specs.declared.Reply.{Reply}
 use Rattle.circuit.specs.declared.Reply.the-variants.{Done, Refused}

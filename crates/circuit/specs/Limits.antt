@@ -79,3 +79,7 @@ maxWrittenGates = writtenGates maxWires
 -- the bytes to lend for it
 abbrev pub writeBytes : ℕ
 writeBytes = gateBytes * maxWrittenGates
+
+-- the most that a byte holds: what is summed before it is judged may be any bytes
+abbrev pub mostByte : ℕ
+mostByte = 255

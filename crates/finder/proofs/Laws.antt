@@ -6,10 +6,10 @@ use Prim.Native.Nat.{_*_, _+_, _/_, _≤_, suc, zero, ℕ}
 use lib.ListN.{length}
 use Rattle.circuit.proofs.Judging.{call-told, lent-pass, lent-well, refused-not-done}
 use Rattle.circuit.proofs.TableRule.{marks-passes}
-use Rattle.circuit.specs.Replies.{numberOf, placeOf}
 use Rattle.circuit.specs.Faults.{callReply, lentFault}
 use Rattle.circuit.specs.Limits.{maxMembers, maxWires, moveCells, parities}
 use Rattle.circuit.specs.OddSet.{memberCount}
+use Rattle.circuit.specs.Replies.{numberOf, placeOf}
 use Rattle.circuit.specs.Sound.{SoundMarks}
 use Rattle.circuit.specs.declared.Reply.the-variants.{Done}
 use Rattle.moves.proofs.Laws.{limits-suffice, none-legal-bound}

@@ -3,9 +3,9 @@ use mathlib.Core.List.{List}
 use mathlib.Core.Path.{_≡_}
 use Prim.Native.Nat.{suc, zero, ℕ}
 use lib.ListN.{length}
-use Rattle.circuit.specs.Replies.{numberOf}
 use Rattle.circuit.specs.Faults.{callReply, lentFault}
 use Rattle.circuit.specs.Limits.{maxMembers, moveCells}
+use Rattle.circuit.specs.Replies.{numberOf}
 use Rattle.circuit.specs.TableFaults.{callFault, marksFault}
 use Rattle.circuit.specs.declared.Reply.{Reply}
 use Rattle.circuit.specs.declared.Reply.the-variants as reply

@@ -15,7 +15,7 @@ use Rattle.moves.specs.CarryOut.{carryOut}
 use Rattle.moves.specs.Move.{Legal}
 use Rattle.phase.specs.Coefficients.{c, l, q}
 use Rattle.circuit.specs.declared.Reply.the-variants.{Refused}
-use Rattle.trimmer.specs.Entry.{Writes-for}
+use Rattle.trimmer.specs.Entry.{Writes-for, noCounts}
 use Rattle.trimmer.specs.Trimmed.{Trimmed}
 use Rattle.trimmer.specs.declared.Counts.{Counts}
 
@@ -86,10 +86,6 @@ t-dagger a = gate T-dagger a 0
 unfoldable pub onesTo : ℕ → List Entry
 onesTo zero = []
 onesTo (suc k) = at (suc k) 1 ∷ onesTo k
-
--- all counts 0
-abbrev pub noCounts : Counts
-noCounts = record { tin = 0; odd = 0; tout = 0; moves = 0; gates = 0 }
 
 -- weight 1 on all 15 parities of four wires: M7, whose odd set is that of M8
 abbrev pub fifteen : List Entry

@@ -6,7 +6,7 @@ use Prim.Native.Nat.{_%_, _*_, _+_, _^_, ℕ, _≤_}
 use lib.Count.{ones}
 use lib.Dec.{ltb}
 use lib.ListN.{getD, length}
-use Rattle.circuit.specs.Limits.{maxWires, pairBytes, parities, tableBytes}
+use Rattle.circuit.specs.Limits.{maxWires, mostByte, pairBytes, parities, tableBytes}
 use Rattle.circuit.specs.Read.{either}
 use Rattle.circuit.specs.Sound.{weight}
 use Rattle.gf2.specs.Parity.{lowest}
@@ -14,7 +14,6 @@ use Rattle.gf2.specs.Sum.{sum}
 use Rattle.gf2.specs.Table.{tabulate}
 use Rattle.phase.specs.NewWeights.{apart, byWires, next}
 use Rattle.weights.specs.Lists.{lEntry, qList}
-use Rattle.weights.specs.Sums.{mostByte}
 
 -- no rest is more than three times a byte, before it is reduced
 abbrev pub mostRest : ℕ

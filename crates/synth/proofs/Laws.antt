@@ -8,12 +8,12 @@ use lib.ListN.{length, take}
 use Rattle.circuit.proofs.Judging.{call-number, call-told, refuse-done, refused-not-done}
 use Rattle.circuit.proofs.ReadRuns.{read-runs}
 use Rattle.circuit.proofs.Sound.{start-sound}
-use Rattle.circuit.specs.Replies.{numberOf, placeOf}
 use Rattle.circuit.specs.Faults.{AllWellFormed, callReply}
 use Rattle.circuit.specs.Gate.{Gate, kindOf}
 use Rattle.circuit.specs.Lent.{frontGates, readBytes, readingLent}
 use Rattle.circuit.specs.Limits.{gateBytes, maxWires, maxWrittenGates, rowCells, writtenGates}
 use Rattle.circuit.specs.Read.{Reading, start}
+use Rattle.circuit.specs.Replies.{numberOf, placeOf}
 use Rattle.circuit.specs.Run.{run}
 use Rattle.circuit.specs.Says.{says}
 use Rattle.circuit.specs.Sound.{SoundRows, SoundWeights}

@@ -5,13 +5,13 @@ use mathlib.Core.Logic.{_≢_}
 use mathlib.Core.Path.{_≡_}
 use Prim.Native.Nat.{_*_, _≤_, suc, zero, ℕ}
 use lib.ListN.{length, take}
-use Rattle.circuit.specs.Replies.{numberOf}
 use Rattle.circuit.specs.Faults.{Accepted, AllWellFormed, callReply}
 use Rattle.circuit.specs.Gate.{Gate, kindOf, tGates}
 use Rattle.circuit.specs.Lent.{KeptFrom, frontGates, readingLent}
 use Rattle.circuit.specs.Limits.{gateBytes, maxWires, writtenGates}
 use Rattle.circuit.specs.OddSet.{memberCount, oddSet}
 use Rattle.circuit.specs.Read.{Reading, read, start}
+use Rattle.circuit.specs.Replies.{numberOf}
 use Rattle.circuit.specs.Sound.{weight}
 use Rattle.circuit.specs.declared.Reply.{Reply}
 use Rattle.circuit.specs.declared.Reply.the-variants as reply

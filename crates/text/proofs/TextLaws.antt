@@ -11,11 +11,11 @@ use lib.Seq.{take-append-seam}
 use borrow.Author.Tests.{eq-eqb, le-leb, lt-leb, ne-eqb}
 use Rattle.circuit.proofs.Bytes.{length-gates}
 use Rattle.circuit.proofs.Placing.{placed-kept}
-use Rattle.circuit.specs.Replies.{numberOf}
 use Rattle.circuit.specs.Faults.{callReply, lentOutput, listLength, malformed, shortFault, wireCount, wiresFault}
 use Rattle.circuit.specs.Gate.{Gate, gate, gatesOf}
 use Rattle.circuit.specs.Lent.{KeptFrom}
 use Rattle.circuit.specs.Limits.{gateBytes, maxGates, maxListBytes, maxWires, maxWrittenGates}
+use Rattle.circuit.specs.Replies.{numberOf}
 use Rattle.circuit.specs.declared.Reply.{Reply}
 use Rattle.circuit.specs.declared.Reply.the-variants.{Done as Judged, Refused as Found}
 use Rattle.text.proofs.Deciding.{text-decided}

@@ -5,10 +5,10 @@ use mathlib.Core.Path.{ap, refl, sym, _∙_, _≡_}
 use Prim.Native.Nat.{suc, zero, ℕ}
 use lib.ListN.{length}
 use Rattle.circuit.proofs.Judging.{done-list, list-number, or-well, refused-not-done, short-well, zero-done}
-use Rattle.circuit.specs.Replies.{numberOf}
 use Rattle.circuit.specs.Gate.{gatesOf}
 use Rattle.circuit.specs.Lent.{frontGates}
 use Rattle.circuit.specs.Limits.{logCells, writeBytes}
+use Rattle.circuit.specs.Replies.{numberOf}
 use Rattle.circuit.specs.declared.Reply.{Reply}
 use Rattle.circuit.specs.declared.Reply.the-variants as reply
 use Rattle.trimmer.proofs.TrimWays.{may-trim}

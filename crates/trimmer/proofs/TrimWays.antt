@@ -9,7 +9,7 @@ use Rattle.circuit.specs.Faults.{shortFault}
 use Rattle.circuit.specs.Limits.{logCells, writeBytes}
 use Rattle.circuit.specs.declared.Reply.{Reply}
 use Rattle.circuit.specs.declared.Reply.the-variants as reply
-use Rattle.trimmer.specs.Entry.{Done-with, TrimLeft, TrimList, Trimmable, trimLent, verdict}
+use Rattle.trimmer.specs.Entry.{Done-with, TrimLeft, TrimList, Trimmable, noCounts, trimLent, verdict}
 use Rattle.trimmer.specs.declared.Counts.{Counts}
 use Rattle.trimmer.specs.declared.TrimReply.the-variants.{Done, Refused}
 
@@ -18,10 +18,7 @@ module _ {n : ℕ} {g out log : List ℕ} {found : Reply} (judged : found ≡ ve
   trim-refused {number} e =
       record { reply = sym e ∙ judged; left = same number (list-number n g (trimLent (length out) (length log)) (sym judged ∙ e)) }
     where
-      none : Counts
-      none = record { tin = 0; odd = 0; tout = 0; moves = 0; gates = 0 }
-
-      same : (f : ℕ) → f ≢ 0 → TrimLeft f none n g out log out log
+      same : (f : ℕ) → f ≢ 0 → TrimLeft f noCounts n g out log out log
       same zero h = absurd (h refl)
       same (suc f) h = (refl, refl)
 

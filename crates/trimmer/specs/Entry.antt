@@ -3,12 +3,12 @@ use mathlib.Core.List.{List}
 use mathlib.Core.Path.{_≡_}
 use Prim.Native.Nat.{_*_, _≤_, suc, zero, ℕ}
 use lib.ListN.{length}
-use Rattle.circuit.specs.Replies.{numberOf}
 use Rattle.circuit.specs.Faults.{Accepted, listReply, orElse, shortFault}
 use Rattle.circuit.specs.Gate.{Gate, gatesOf}
 use Rattle.circuit.specs.Lent.{KeptFrom, frontGates}
 use Rattle.circuit.specs.Limits.{gateBytes, logCells, maxWires, moveCells, parities, writeBytes}
 use Rattle.circuit.specs.Read.{read, withWeights}
+use Rattle.circuit.specs.Replies.{numberOf}
 use Rattle.phase.specs.NewWeights.{newWeights}
 use Rattle.synth.specs.Entry.{Wrote}
 use Rattle.trimmer.specs.Trimmed.{Trimmed, oddSetOf, weightsOf}
@@ -25,10 +25,14 @@ abbrev pub told : TrimReply → Reply
 told (Done counts) = reply.Done
 told (Refused number place) = reply.Refused number place
 
+-- all counts 0
+abbrev pub noCounts : Counts
+noCounts = record { tin = 0; odd = 0; tout = 0; moves = 0; gates = 0 }
+
 -- the counts, all 0 where it refused
 abbrev pub countsOf : TrimReply → Counts
 countsOf (Done counts) = counts
-countsOf (Refused number place) = record { tin = 0; odd = 0; tout = 0; moves = 0; gates = 0 }
+countsOf (Refused number place) = noCounts
 
 -- 8, by the lengths of the gates lent and of the log lent
 abbrev pub trimLent : ℕ → ℕ → ℕ

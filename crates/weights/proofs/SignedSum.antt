@@ -15,7 +15,8 @@ use Rattle.gf2.proofs.Sum.{sum-suc}
 use Rattle.gf2.specs.Bit.{bit}
 use Rattle.gf2.specs.Sum.{sum}
 use Rattle.gf2.specs.Table.{weightedSum}
-use Rattle.weights.specs.Sums.{mostByte, sumWith}
+use Rattle.circuit.specs.Limits.{mostByte}
+use Rattle.weights.specs.Sums.{sumWith}
 
 -- ---- the sum so far
 

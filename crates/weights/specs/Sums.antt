@@ -6,10 +6,6 @@ use Rattle.circuit.specs.Limits.{maxWires}
 use Rattle.gf2.specs.Bit.{bit}
 use Rattle.gf2.specs.Table.{weightedSum}
 
--- the most that a byte holds: the code takes weights of any bytes
-abbrev pub mostByte : ℕ
-mostByte = 255
-
 -- the sum of the weights of parities with i, j and k
 abbrev pub sumWith : List ℕ → ℕ → ℕ → ℕ → ℕ
 sumWith w i j k = weightedSum w (λ p. bit p i * bit p j * bit p k)

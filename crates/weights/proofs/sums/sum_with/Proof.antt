@@ -5,11 +5,10 @@ use native.Mathlib.Omega.{arith}
 use lib.ListN.{length}
 use borrow.Author.Needs.{needs}
 use denote.Ref.{now}
-use Rattle.circuit.specs.Limits.{parities}
+use Rattle.circuit.specs.Limits.{mostByte, parities}
 use Rattle.gf2.specs.Sum.{sum}
 use Rattle.weights.proofs.SignedSum.{Turn, so-far-all, soFar, sum-small, turn-fits, turn-small, turn-sums}
 use Rattle.weights.proofs.sums.sum_with.Statement.{statement}
-use Rattle.weights.specs.Sums.{mostByte}
 use Rattle.weights.proofs.sums.sum_with.Tie as tie
 
 abbrev Inv-loop : tie.InvT-loop
