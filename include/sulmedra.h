@@ -135,8 +135,9 @@ typedef struct {
     uint64_t gates;  /* the number of gates written, 0 where none are */
 } sulmedra_written;
 
-/* Writes gates on n wires for weights and rows, from the first byte on: reading them gives exactly these weights and rows. At most
- * n * 2^n + n * n gates; every byte after the last gate is as it was. Which CNOTs are used, and the order of parities, are free.
+/* Writes gates on n wires for weights and rows, from the first byte on: reading them gives exactly these weights and rows. Weight 1 to 7
+ * is spelled T; S; S T; S S; S dagger T dagger; S dagger; T dagger, so that no Z is written. At most n * 2^n + n * n gates; every byte
+ * after the last gate is as it was. Which CNOTs are used, and the order of parities, are free.
  *   weights  256 bytes, each 0 to 7, 0 at parity 0 and from 2^n up
  *   rows     8 bytes: row i below 2^n, 0 from row n up, invertible
  *   gates    at least 6,336 bytes, written
@@ -184,7 +185,8 @@ typedef struct {
 
 /* Trims a circuit on n wires: writes a circuit that sends each basis state to the same state with the same phase modulo 8, and the
  * moves that lead to it. It has no more T and T dagger gates than the circuit and no more than (n * n + n) / 2 + 1, and no legal move
- * is left for its odd set. Which CNOTs are used, the order of parities, and which legal moves are made are free.
+ * is left for its odd set. It has no Z and is spelled as sulmedra_write spells. Which CNOTs are used, the order of parities, and which
+ * legal moves are made are free.
  *   gates  three bytes each, at most 12,288 bytes, any bytes
  *   out    at least 6,336 bytes; the gates are written from its start, and what comes after the last is untouched
  *   log    at least 10,200 bytes; the moves are written from its start, forty bytes each, and what comes after the last is untouched

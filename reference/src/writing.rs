@@ -1,11 +1,15 @@
-//! What must hold of a written list (demand 2, and document 01, "The new weights"), and a plain list for given weights.
+//! What must hold of a written list (demand 2; document 01, "The new weights"; document 02, 2.6), and a plain list for
+//! given weights.
 
 use crate::faults;
-use crate::gates::{CNOT, GATE_BYTES, S, S_DAGGER, T, T_DAGGER, Z};
+use crate::gates::{gates_of, CNOT, GATE_BYTES, S, S_DAGGER, T, T_DAGGER};
 use crate::reading::{self, PhaseGate, Reading, Weights};
 
 /// The fewest bytes that may be lent for a written list.
 pub const WRITTEN_BYTES: usize = 6336;
+
+/// The kinds that a rack without a native Z knows.
+pub const PULSES: [u8; 5] = [CNOT, T, S, S_DAGGER, T_DAGGER];
 
 /// The gates that spell a weight.
 pub fn spelling(weight: u8) -> &'static [u8] {
@@ -14,8 +18,8 @@ pub fn spelling(weight: u8) -> &'static [u8] {
         1 => &[T],
         2 => &[S],
         3 => &[S, T],
-        4 => &[Z],
-        5 => &[Z, T],
+        4 => &[S, S],
+        5 => &[S_DAGGER, T_DAGGER],
         6 => &[S_DAGGER],
         7 => &[T_DAGGER],
         _ => panic!("{weight} is no weight"),
@@ -35,6 +39,9 @@ pub fn check_written(n: usize, wanted: &Reading, list: &[u8]) -> Result<(), Stri
     let gates = list.len() / GATE_BYTES;
     if gates > most_written(n) {
         return Err(format!("{gates} gates on {n} wires"));
+    }
+    if let Some(gate) = gates_of(list).find(|gate| !PULSES.contains(&gate.kind)) {
+        return Err(format!("no rack without a Z of its own can run {gate:?}"));
     }
     let (phases, rows) = reading::phase_gates(n, list);
     check_spelled(wanted, &phases)?;

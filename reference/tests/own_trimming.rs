@@ -7,7 +7,7 @@ use sulmedra_reference::odd_set::{odd_set, size};
 use sulmedra_reference::random::{circuit, rows, weights, Random};
 use sulmedra_reference::reading::{read, Reading};
 use sulmedra_reference::trimming::{check_trim, Counts};
-use sulmedra_reference::writing::{check_written, most_written, plain_list, spelling};
+use sulmedra_reference::writing::{check_written, most_written, plain_list, spelling, PULSES};
 use sulmedra_reference::{existence, published};
 
 fn trim(n: usize, list: &[u8]) -> Trimmed {
@@ -44,7 +44,19 @@ fn plain_lists_have_their_weights() {
 fn the_spelling_adds_up_to_the_weight() {
     for weight in 0..8u8 {
         let sum: u8 = spelling(weight).iter().map(|kind| [0, 0, 1, 2, 4, 6, 7][usize::from(*kind)]).sum();
-        assert_eq!(sum, weight);
+        assert_eq!(sum % 8, weight);
+    }
+}
+
+/// No Z, at most two gates, and one T or T dagger where the weight is odd.
+#[test]
+fn the_spelling_suits_a_rack_without_z() {
+    for weight in 0..8u8 {
+        let kinds = spelling(weight);
+        assert!(kinds.len() <= 2, "weight {weight}");
+        assert!(kinds.iter().all(|kind| PULSES.contains(kind)), "weight {weight}");
+        let ts = kinds.iter().filter(|kind| [2, 6].contains(*kind)).count();
+        assert_eq!(ts, usize::from(weight % 2), "weight {weight}");
     }
 }
 
@@ -69,6 +81,26 @@ fn written_lists_are_accepted_and_damaged_ones_are_not() {
         }
     }
     assert_eq!(most_written(8), 2112);
+}
+
+/// A list on one wire that has this weight on it is written in one way alone.
+#[test]
+fn other_spellings_of_4_and_5_are_noticed() {
+    let written = |weight: u8, kinds: &[u8]| {
+        let mut weights = [0; 256];
+        weights[1] = weight;
+        let wanted = Reading { weights, rows: [1, 0, 0, 0, 0, 0, 0, 0] };
+        let list: Vec<u8> = kinds.iter().flat_map(|kind| [*kind, 0, 0]).collect();
+        check_written(1, &wanted, &list)
+    };
+    assert_eq!(written(4, &[3, 3]), Ok(()), "S S");
+    assert!(written(4, &[4]).is_err(), "Z");
+    assert!(written(4, &[5, 5]).is_err(), "S dagger S dagger");
+    assert_eq!(written(5, &[5, 6]), Ok(()), "S dagger T dagger");
+    assert!(written(5, &[4, 2]).is_err(), "Z T");
+    assert!(written(5, &[3, 3, 2]).is_err(), "S S T: one gate too many");
+    assert!(written(5, &[5, 2]).is_err(), "S dagger T: weight 7");
+    assert!(written(5, &[6, 5]).is_err(), "T dagger S dagger");
 }
 
 /// As many gates of each kind, and the same weights, but not spelled as the paper says.

@@ -50,6 +50,16 @@ fn document_01s_example() {
     assert_eq!(both(text, &mut random), Ok(Printed { n: 1, gates: vec![3, 0, 0], counts }));
 }
 
+/// The manual's example: a Z is read, and written as S S, with a T as S dagger T dagger.
+#[test]
+fn a_z_is_read_and_none_is_written() {
+    let mut random = Random::new(321);
+    let text = b"02\n040000\n040100\n020100\n";
+    assert_eq!(shown(&run(text)), "02\n0001 0001 0001 0000\n030000\n030000\n050100\n060100\n");
+    let said = answer_and_trim(text, &mut random).said.expect("a sound text is accepted");
+    assert_eq!(said.gates, [3, 0, 0, 3, 0, 0, 5, 1, 0, 6, 1, 0]);
+}
+
 /// A refusal is one line of sixteen bytes and nothing else.
 #[test]
 fn lines_of_refusals() {

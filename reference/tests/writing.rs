@@ -91,7 +91,7 @@ fn the_longest_lists() {
     let mut random = Random::new(244);
     for n in 2..=8 {
         let mut table = [0; 256];
-        table[1..1 << n].iter_mut().for_each(|weight| *weight = random.one_of(&[3, 5]));
+        table[1..1 << n].iter_mut().for_each(|weight| *weight = random.one_of(&[3, 4, 5]));
         let list = write(n, &table, &costliest_rows(n), 6336, &mut random).expect("sound weights and rows");
         assert_eq!(list.len() / GATE_BYTES + 1, most_written(n), "n = {n}");
     }

@@ -128,3 +128,16 @@ size_t t_gates(const uint8_t *gates, size_t len)
         count += gates[i] == SULMEDRA_T || gates[i] == SULMEDRA_T_DAGGER;
     return count;
 }
+
+static int rack_knows(uint8_t kind)
+{
+    return kind == SULMEDRA_CNOT || kind == SULMEDRA_T || kind == SULMEDRA_S || kind == SULMEDRA_S_DAGGER || kind == SULMEDRA_T_DAGGER;
+}
+
+int rack_runs(const uint8_t *gates, size_t len)
+{
+    for (size_t i = 0; i < len; i += SULMEDRA_GATE_BYTES)
+        if (!rack_knows(gates[i]))
+            return 0;
+    return 1;
+}

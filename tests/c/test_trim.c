@@ -81,6 +81,7 @@ static void trimmed(const trim_call *call)
     has_its_counts(call);
     acts_as_before(call);
     log_leads_there(call);
+    CHECK(rack_runs(call->out.bytes, written(call)));
     CHECK(untouched_after(&call->out, written(call)));
     CHECK(untouched_after(&call->log, SULMEDRA_MOVE_BYTES * call->reply.moves));
 }
@@ -123,6 +124,17 @@ static void all_counts_differ(void)
     CHECK(call.reply.odd_size == 2);
     CHECK(call.reply.moves == 0);
     CHECK(call.reply.gates > call.reply.t_out);
+    take_back();
+}
+
+/* Z is read, and written as S S. */
+static void z_alone(void)
+{
+    about("trim: a Z");
+    trim_call call = call_with_room(1, LIST(ON(SULMEDRA_Z, 0)));
+    trimmed(&call);
+    CHECK(call.reply.gates == 2);
+    CHECK(starts_with(&call.out, LIST(ON(SULMEDRA_S, 0), ON(SULMEDRA_S, 0))));
     take_back();
 }
 
@@ -190,6 +202,7 @@ void test_trim(void)
 {
     empty_circuit();
     all_counts_differ();
+    z_alone();
     fourteen("trim: the fourteen-T block", SULMEDRA_WRITE_BYTES, SULMEDRA_LOG_BYTES);
     fourteen("trim: more room for gates", SULMEDRA_WRITE_BYTES + 1, SULMEDRA_LOG_BYTES);
     fourteen("trim: more room for the log", SULMEDRA_WRITE_BYTES, SULMEDRA_LOG_BYTES + 1);

@@ -41,8 +41,8 @@ static void spellings(void)
     spelled(1, LIST(T(0)));
     spelled(2, LIST(ON(SULMEDRA_S, 0)));
     spelled(3, LIST(ON(SULMEDRA_S, 0), T(0)));
-    spelled(4, LIST(ON(SULMEDRA_Z, 0)));
-    spelled(5, LIST(ON(SULMEDRA_Z, 0), T(0)));
+    spelled(4, LIST(ON(SULMEDRA_S, 0), ON(SULMEDRA_S, 0)));
+    spelled(5, LIST(ON(SULMEDRA_S_DAGGER, 0), ON(SULMEDRA_T_DAGGER, 0)));
     spelled(6, LIST(ON(SULMEDRA_S_DAGGER, 0)));
     spelled(7, LIST(ON(SULMEDRA_T_DAGGER, 0)));
 }
@@ -57,6 +57,7 @@ static void written_and_read(size_t n)
     write_call call = call_write(n, lend_table(weights), lend_rows(rows), SULMEDRA_WRITE_BYTES);
     CHECK(call.reply.number == SULMEDRA_DONE);
     CHECK(call.reply.gates <= n * (1u << n) + n * n);
+    CHECK(rack_runs(call.gates.bytes, SULMEDRA_GATE_BYTES * call.reply.gates));
     CHECK(untouched_after(&call.gates, SULMEDRA_GATE_BYTES * call.reply.gates));
     sulmedra_read(n, call.gates.bytes, SULMEDRA_GATE_BYTES * call.reply.gates, again.at, sizeof again.at, rows_again.of,
                   sizeof rows_again.of);

@@ -22,7 +22,9 @@ use Rattle.circuit.specs.declared.Reply.{Reply}
 use Rattle.circuit.specs.declared.Reply.the-variants as reply
 use Rattle.circuit.specs.declared.gates.Kind.{Kind}
 use Rattle.circuit.specs.declared.gates.Kind.the-variants.{Cnot, Phase, Unknown}
+use Rattle.synth.proofs.Laws.{rack-runs-wrote}
 use Rattle.synth.proofs.WriteWays.{longest}
+use Rattle.synth.specs.Spelling.{RackRuns}
 use Rattle.text.proofs.ReadsWritten.{bytes-more, reads-written}
 use Rattle.text.proofs.TextLaws.{circuit-reads-back, first-bytes-decide, refused-line-long, reply-fits}
 use Rattle.text.proofs.WrittenReads.{AllBytes, AreBytes}
@@ -174,3 +176,7 @@ printed-reads-back n list bytes said p =
       byte = written-bytes n (said .few) D (p .written .formed);
     } in
     ap (λ (gs : List Gate). readText (wiresLine n ++ gateLines gs)) (sym (gates-of-bytes D)) ∙ circuit-reads-back n (bytesOf D) sayable
+
+-- and a rack without a native Z can run them (document 02, 2.6)
+pub rack-runs-printed : (n : ℕ) (C : List Gate) (bytes : List ℕ) (p : PrintsTrim n C bytes) → RackRuns (p .D)
+rack-runs-printed n C bytes p = rack-runs-wrote (p .written)

@@ -9,7 +9,7 @@ use Rattle.circuit.proofs.Judging.{call-number, call-told, refuse-done, refused
 use Rattle.circuit.proofs.ReadRuns.{read-runs}
 use Rattle.circuit.proofs.Sound.{start-sound}
 use Rattle.circuit.specs.Faults.{AllWellFormed, callReply}
-use Rattle.circuit.specs.Gate.{Gate, kindOf}
+use Rattle.circuit.specs.Gate.{Gate, Z, kindOf}
 use Rattle.circuit.specs.Lent.{frontGates, readBytes, readingLent}
 use Rattle.circuit.specs.Limits.{gateBytes, maxWires, maxWrittenGates, rowCells, writtenGates}
 use Rattle.circuit.specs.Read.{Reading, start}
@@ -19,12 +19,13 @@ use Rattle.circuit.specs.Says.{says}
 use Rattle.circuit.specs.Sound.{SoundRows, SoundWeights}
 use Rattle.gf2.specs.Sum.{sum}
 use Rattle.synth.proofs.KindCounts.{kinds-total}
+use Rattle.synth.proofs.Pulses.{runs-without-z}
 use Rattle.synth.proofs.RowRule.{rows-sound}
 use Rattle.synth.proofs.WriteBack.{list-written}
 use Rattle.synth.proofs.WriteWays.{fault-ready, longest, ready-faultless}
 use Rattle.synth.specs.Entry.{GatesLeft, WriteList, Wrote, WroteBytes}
 use Rattle.synth.specs.Faults.{Writable, rowsFault, writeFault}
-use Rattle.synth.specs.Spelling.{gatesOfKind, kindsAt, occurs}
+use Rattle.synth.specs.Spelling.{RackRuns, gatesOfKind, kindsAt, occurs}
 use Rattle.synth.specs.Writing.{writeList}
 use Rattle.circuit.specs.declared.Reply.the-variants as reply
 use Rattle.circuit.specs.declared.gates.Kind.the-variants.{Phase}
@@ -42,6 +43,16 @@ sound-is-written N n fit w rows sw sr = (writeList N n w rows, list-written N n 
 pub kinds-are-counted : (N n : ℕ) → n ≤ N → (kind v : ℕ) → kindOf kind ≡ Phase v → (gs : List Gate) → AllWellFormed n gs
     → gatesOfKind kind gs ≡ sum (2 ^ n) (λ p. occurs kind (kindsAt p gs (start N n)))
 kinds-are-counted N n fit kind v e gs f = kinds-total kind v e N n fit gs (start N n) f (start-sound N n fit)
+
+-- ---- document 02, 2.6: a rack without a native Z, that knows CNOT, T, S, S dagger and T dagger
+
+-- it can run an accepted list exactly where the list holds no Z
+pub rack-runs-exactly : (n : ℕ) (gs : List Gate) → AllWellFormed n gs → RackRuns gs ↔ (gatesOfKind Z gs ≡ 0)
+rack-runs-exactly n gs f = runs-without-z n gs f
+
+-- so it can run every list that is written
+pub rack-runs-wrote : {N n : ℕ} {r : Reading} {gs : List Gate} → Wrote N n r gs → RackRuns gs
+rack-runs-wrote {n = n} {gs = gs} w = rack-runs-exactly n gs (w .formed) .1 (w .no-z)
 
 -- ---- demand 1: the reply of `write`
 
@@ -94,6 +105,10 @@ module _ (n : ℕ) (w rows g g′ : List ℕ) (count : ℕ) (x : WriteList n w r
   -- the reader of the same gates gives back the weights and rows
   pub written-reads-back : readBytes n (take (gateBytes * count) g′) ≡ readingLent w rows
   written-reads-back = x .gates-left .list .reads
+
+  -- a rack without a native Z can run them
+  pub rack-runs-written : RackRuns (frontGates count g′)
+  rack-runs-written = rack-runs-wrote (x .gates-left .list)
 
   -- at most n * 2^n + n * n gates
   pub written-few : (count ≤ writtenGates n) × (count ≤ maxWrittenGates)

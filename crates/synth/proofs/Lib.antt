@@ -4,6 +4,7 @@ pub mod Lists
 pub mod Cnots
 pub mod Spelled
 pub mod KindCounts
+pub mod Pulses
 pub mod OneParity
 pub mod AllParities
 pub mod Pivots

@@ -1,5 +1,6 @@
 -- The spelling of a weight: phase gates alone, at most two, that add the weight at the parity their wire holds. One of them is T or T
--- dagger where the weight is odd, none where it is even. That is one test, computed at each weight; nothing else looks at a spelling.
+-- dagger where the weight is odd, none where it is even; none is Z. Each is a test, computed at each weight; nothing else looks at a
+-- spelling.
 use mathlib.Core.Bool.{Bool, _&&_, false, true}
 use mathlib.Core.List.{List, [], map, _∷_}
 use mathlib.Core.Logic.{_≢_}
@@ -13,7 +14,7 @@ use lib.Seq.{getD-set-same, set-set}
 use borrow.Author.Tests.{eq-eqb, ne-eqb}
 use Rattle.circuit.proofs.GateKinds.{turnOf}
 use Rattle.circuit.specs.Faults.{AllWellFormed}
-use Rattle.circuit.specs.Gate.{T, T-dagger, gate, kindOf}
+use Rattle.circuit.specs.Gate.{T, T-dagger, Z, gate, kindOf}
 use Rattle.circuit.specs.Read.{Reading, readFrom, readKind, row, withWeights}
 use Rattle.gf2.proofs.Brute.{T-both}
 use Rattle.gf2.proofs.Every.{every-at}
@@ -41,8 +42,9 @@ pub record Right (v : ℕ) : Type 0 where
   pub few : length (spelling v) ≤ 2
   pub adds : turns (spelling v) % 8 ≡ v
   pub t-if-odd : occurs T (spelling v) + occurs T-dagger (spelling v) ≡ v % 2
+  pub no-z : occurs Z (spelling v) ≡ 0
 
--- ---- the same as a test
+-- ---- the same as tests
 
 abbrev isPhase : Kind → Bool
 isPhase (Phase v) = true
@@ -62,30 +64,38 @@ phases-told (k ∷ ks) t = let h = T-both (isPhase (kindOf k)) (arePhases ks) .0
     told Cnot t = absurd t
     told Unknown t = absurd t
 
-unfoldable counted : ℕ → Bool
-counted v =
-    leb (length (spelling v)) 2
-    && (eqb (turns (spelling v) % 8) v && eqb (occurs T (spelling v) + occurs T-dagger (spelling v)) (v % 2))
+-- a test of every weight
+abbrev Each : (ℕ → Bool) → Type 0
+Each test = Holds (every 8 test)
 
-unfoldable isRight : ℕ → Bool
-isRight v = arePhases (spelling v) && counted v
+phases-each : Each (λ v. arePhases (spelling v))
+unfolding every spelling kindOf
+phases-each = tt
 
-computed : Holds (every 8 isRight)
-unfolding every isRight counted turns spelling occurs delta kindOf
-computed = tt
+few-each : Each (λ v. leb (length (spelling v)) 2)
+unfolding every spelling
+few-each = tt
+
+adds-each : Each (λ v. eqb (turns (spelling v) % 8) v)
+unfolding every spelling turns kindOf
+adds-each = tt
+
+t-each : Each (λ v. eqb (occurs T (spelling v) + occurs T-dagger (spelling v)) (v % 2))
+unfolding every spelling occurs delta
+t-each = tt
+
+no-z-each : Each (λ v. eqb (occurs Z (spelling v)) 0)
+unfolding every spelling occurs delta
+no-z-each = tt
 
 pub right : (v : ℕ) → v < 8 → Right v
-unfolding isRight counted
 right v l =
-    let ts : ℕ = occurs T (spelling v) + occurs T-dagger (spelling v) in
-    let a = T-both (arePhases (spelling v)) (counted v) .0 (every-at 8 isRight computed v l) in
-    let b = T-both (leb (length (spelling v)) 2) (eqb (turns (spelling v) % 8) v && eqb ts (v % 2)) .0 (a .1) in
-    let d = T-both (eqb (turns (spelling v) % 8) v) (eqb ts (v % 2)) .0 (b .1) in
     record {
-      phases = phases-told (spelling v) (a .0);
-      few = leb→le (length (spelling v)) 2 (b .0);
-      adds = eqb→eq (turns (spelling v) % 8) v (d .0);
-      t-if-odd = eqb→eq ts (v % 2) (d .1);
+      phases = phases-told (spelling v) (every-at 8 _ phases-each v l);
+      few = leb→le _ _ (every-at 8 _ few-each v l);
+      adds = eqb→eq _ _ (every-at 8 _ adds-each v l);
+      t-if-odd = eqb→eq _ _ (every-at 8 _ t-each v l);
+      no-z = eqb→eq _ _ (every-at 8 _ no-z-each v l);
     }
 
 -- ---- reading
@@ -167,7 +177,10 @@ module _ (p v t : ℕ) (small : v < 8) (r : Reading) where
   unfolding spell
   kinds-away e = kinds-on p t false (spelling v) (right v small .phases) r (ne-eqb (row r t) p e)
 
--- ---- T and T dagger
+-- ---- T and T dagger, and Z
 
 pub occurs-odd : (v : ℕ) → v < 8 → occurs T (spelling v) + occurs T-dagger (spelling v) ≡ v % 2
 occurs-odd v l = right v l .t-if-odd
+
+pub occurs-no-z : (v : ℕ) → v < 8 → occurs Z (spelling v) ≡ 0
+occurs-no-z v l = right v l .no-z

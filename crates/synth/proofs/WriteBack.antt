@@ -11,20 +11,20 @@ use lib.Pow.{pow-mono}
 use Rattle.circuit.proofs.OddSet.{length-odd, members-sum, odd-bits, odd-mark}
 use Rattle.circuit.proofs.Sound.{read-append, start-sound}
 use Rattle.circuit.specs.Faults.{AllWellFormed}
-use Rattle.circuit.specs.Gate.{Gate, T, T-dagger, kindOf, tGates}
+use Rattle.circuit.specs.Gate.{Gate, T, T-dagger, Z, kindOf, tGates}
 use Rattle.circuit.specs.Lent.{readingLent}
 use Rattle.circuit.specs.Limits.{writtenGates}
 use Rattle.circuit.specs.OddSet.{memberCount, oddSet}
 use Rattle.circuit.specs.Read.{firstRows, read, readFrom, start, withWeights}
 use Rattle.circuit.specs.Sound.{SoundRows, SoundWeights, weight}
 use Rattle.gf2.proofs.Pairing.{sum-stop}
-use Rattle.gf2.proofs.Sum.{sum-add, sum-ext}
+use Rattle.gf2.proofs.Sum.{sum-add, sum-ext, sum-zero}
 use Rattle.gf2.specs.Sum.{sum}
 use Rattle.synth.proofs.AllParities.{formed-phases, kinds-phases, length-phases, phases-read-back, phases-together}
 use Rattle.synth.proofs.KindCounts.{kinds-total, t-by-kind}
 use Rattle.synth.proofs.Lists.{formed-append, kinds-append, together-first}
 use Rattle.synth.proofs.RowsWritten.{Brings, kinds-rows, rows-written}
-use Rattle.synth.proofs.Spelled.{occurs-odd}
+use Rattle.synth.proofs.Spelled.{occurs-no-z, occurs-odd}
 use Rattle.synth.specs.Entry.{Wrote}
 use Rattle.synth.specs.Spelling.{Together, gatesOfKind, kindsAt, occurs, spelledGates, spelling}
 use Rattle.synth.specs.Writing.{writeList, writePhases, writeRows}
@@ -73,6 +73,14 @@ module _ (N n : ℕ) (fit : n ≤ N) (w rows : List ℕ) (sw : SoundWeights (2 ^
       ∙ sum-ext (2 ^ n) (λ p. occurs kind (kindsAt p gs (start N n))) f (λ p l. ap (occurs kind) (spelled p))
       ∙ sym (sum-stop (2 ^ n) (length w) f (omega (arith, sw .long)) (λ p l. ap (λ (x : ℕ). occurs kind (spelling x)) (sw .high p l)))
 
+  -- no weight is spelled with a Z
+  no-z : gatesOfKind Z gs ≡ 0
+  unfolding spelledGates kindOf
+  no-z =
+      kinds Z 4 refl
+      ∙ sum-ext (length w) (λ p. occurs Z (spelling (weight w p))) (λ p. 0) (λ p l. occurs-no-z (weight w p) (sw .small p))
+      ∙ sum-zero (length w)
+
   -- one T or T dagger for an odd weight, none for an even one
   t-gates : tGates gs ≡ memberCount (oddSet w)
   unfolding spelledGates kindOf
@@ -94,5 +102,6 @@ module _ (N n : ℕ) (fit : n ≤ N) (w rows : List ℕ) (sw : SoundWeights (2 ^
         spelled = spelled;
         together = together;
         kinds = kinds;
+        no-z = no-z;
         t-gates = t-gates;
       }

@@ -6,7 +6,7 @@ use mathlib.Core.Path.{_≡_}
 use Prim.Native.Nat.{_*_, _≤_, suc, zero, ℕ}
 use lib.ListN.{length, take}
 use Rattle.circuit.specs.Faults.{Accepted, AllWellFormed, callReply}
-use Rattle.circuit.specs.Gate.{Gate, kindOf, tGates}
+use Rattle.circuit.specs.Gate.{Gate, Z, kindOf, tGates}
 use Rattle.circuit.specs.Lent.{KeptFrom, frontGates, readingLent}
 use Rattle.circuit.specs.Limits.{gateBytes, maxWires, writtenGates}
 use Rattle.circuit.specs.OddSet.{memberCount, oddSet}
@@ -49,6 +49,8 @@ pub record Wrote (N n : ℕ) (r : Reading) (gs : List Gate) : Type 0 where
   pub together : (p : ℕ) → weight (r .weights) p ≢ 0 → Together p (weight (r .weights) p) gs (start N n)
   -- so there are as many gates of each kind of phase gate as the spellings of all weights have
   pub kinds : (kind v : ℕ) → kindOf kind ≡ Phase v → gatesOfKind kind gs ≡ spelledGates kind (r .weights)
+  -- of which none has a Z
+  pub no-z : gatesOfKind Z gs ≡ 0
   -- and as many T and T dagger gates as the odd set has members
   pub t-gates : tGates gs ≡ memberCount (oddSet (r .weights))
 

@@ -1,13 +1,14 @@
--- Document 01, "The new weights": "Writing spells weight 1 to 7 as T; S; S T; Z; Z T; S dagger; T dagger." And what it means that a list
--- spells its weights so, whatever its CNOTs and its order of parities are.
+-- Document 01, "The new weights": "Writing spells weight 1 to 7 as T; S; S T; Z; Z T; S dagger; T dagger", and document 02, 2.6: "Written
+-- weight 4 becomes S S, and 5 becomes S dagger T dagger". What it means that a list spells its weights so, whatever its CNOTs and its order
+-- of parities are; and which lists a rack without a native Z can run.
 use mathlib.Core.Bool.{Bool, false, true}
 use mathlib.Core.List.{_++_, List, [], _∷_, map}
 use mathlib.Core.Path.{_≡_}
-use Prim.Native.Nat.{_+_, ℕ}
+use Prim.Native.Nat.{_+_, _≤_, ℕ}
 use lib.Dec.{eqb}
 use lib.ListN.{getD, length}
 use Rattle.gf2.specs.Sum.{delta, sum}
-use Rattle.circuit.specs.Gate.{Gate, S, S-dagger, T, T-dagger, Z, gate, kindOf}
+use Rattle.circuit.specs.Gate.{CNOT, Gate, S, S-dagger, T, T-dagger, gate, kindOf}
 use Rattle.circuit.specs.Read.{Reading, readFrom, readGate, row}
 use Rattle.circuit.specs.Sound.{weight}
 use Rattle.circuit.specs.declared.gates.Kind.{Kind}
@@ -15,10 +16,22 @@ use Rattle.circuit.specs.declared.gates.Kind.the-variants.{Cnot, Phase, Unknown
 
 -- ---- the spelling
 
--- the kinds of the gates that spell a weight, in order, from weight 0, which no gate spells, to weight 7
+-- the kinds of the gates that spell each weight, in order, from weight 0, which no gate spells, to weight 7
+abbrev pub spellings : List (List ℕ)
+spellings =
+    []
+    ∷ (T ∷ [])
+    ∷ (S ∷ [])
+    ∷ (S ∷ T ∷ [])
+    ∷ (S ∷ S ∷ [])
+    ∷ (S-dagger ∷ T-dagger ∷ [])
+    ∷ (S-dagger ∷ [])
+    ∷ (T-dagger ∷ [])
+    ∷ []
+
+-- and one weight
 unfoldable pub spelling : ℕ → List ℕ
-spelling v =
-    getD ([] ∷ (T ∷ []) ∷ (S ∷ []) ∷ (S ∷ T ∷ []) ∷ (Z ∷ []) ∷ (Z ∷ T ∷ []) ∷ (S-dagger ∷ []) ∷ (T-dagger ∷ []) ∷ []) v []
+spelling v = getD spellings v []
 
 -- the gates that spell weight v, on wire t
 unfoldable pub spell : ℕ → ℕ → List Gate
@@ -59,3 +72,14 @@ pub record Together (p v : ℕ) (gs : List Gate) (r : Reading) : Type 0 where
   pub after : List Gate
   pub is : gs ≡ before ++ (spell v wire ++ after)
   pub holds : row (readFrom before r) wire ≡ p
+
+-- ---- the rack
+
+-- the kinds in its pulse table, which has no Z of its own
+abbrev pub pulses : List ℕ
+pulses = CNOT ∷ T ∷ S ∷ S-dagger ∷ T-dagger ∷ []
+
+-- it can run a list: the kind of each gate is in its table
+abbrev pub RackRuns : List Gate → Type 0
+RackRuns [] = Unit {0}
+RackRuns (gate kind a b ∷ gs) = (1 ≤ occurs kind pulses) × RackRuns gs

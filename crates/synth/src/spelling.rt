@@ -1,4 +1,4 @@
-// How a weight is spelled (document 01, "The new weights"). Internal: the caller has found no fault.
+// How a weight is spelled (document 01, "The new weights", and document 02, 2.6). Internal: the caller has found no fault.
 ghost use mathlib.Core.List.{[], _∷_};
 ghost use mathlib.Core.Path.{_≡_};
 ghost use Prim.Native.Nat.{_<_};
@@ -10,7 +10,6 @@ use circuit::gates::S;
 use circuit::gates::S_DAGGER;
 use circuit::gates::T;
 use circuit::gates::T_DAGGER;
-use circuit::gates::Z;
 use circuit::limits::Weight;
 
 // The kinds of the gates that spell a weight, in order.
@@ -32,7 +31,7 @@ pub fn spell_out(gates: &mut [u8], k: usize, v: Weight, t: u8) -> usize
     }
 }
 
-// Weight 1 to 7 as T; S; S T; Z; Z T; S dagger; T dagger.
+// Weight 1 to 7 as T; S; S T; S S; S dagger T dagger; S dagger; T dagger: a rack may have no Z of its own.
 fn kinds_for(v: Weight) -> Kinds
     requires { ⌜ v < 8 ⌝ }
     ensures { λ r. ⌜ kindsOf r ≡ spelling v ⌝ }
@@ -41,8 +40,8 @@ fn kinds_for(v: Weight) -> Kinds
         1 => Kinds::One(T),
         2 => Kinds::One(S),
         3 => Kinds::Two(S, T),
-        4 => Kinds::One(Z),
-        5 => Kinds::Two(Z, T),
+        4 => Kinds::Two(S, S),
+        5 => Kinds::Two(S_DAGGER, T_DAGGER),
         6 => Kinds::One(S_DAGGER),
         7 => Kinds::One(T_DAGGER),
         _ => Kinds::Nothing,

@@ -11,6 +11,8 @@ use Rattle.circuit.specs.Limits.{logCells, writeBytes}
 use Rattle.circuit.specs.Replies.{numberOf}
 use Rattle.circuit.specs.declared.Reply.{Reply}
 use Rattle.circuit.specs.declared.Reply.the-variants as reply
+use Rattle.synth.proofs.Laws.{rack-runs-wrote}
+use Rattle.synth.specs.Spelling.{RackRuns}
 use Rattle.trimmer.proofs.TrimWays.{may-trim}
 use Rattle.trimmer.specs.Entry.{Done-with, TrimLeft, TrimList, Trimmable, countsOf, told, trimLent, verdict}
 use Rattle.trimmer.specs.Trimmed.{Trimmed}
@@ -62,6 +64,10 @@ module _ (n : ℕ) (bytes out log out′ log′ : List ℕ) where
     -- how D is written, and what stays untouched after it and after the log
     pub done-writes : Trimmable n bytes out log → Done-with n bytes out log out′ log′ (countsOf r)
     done-writes t = all-done t .1
+
+    -- a rack without a native Z can run D
+    pub rack-runs-trimmed : Trimmable n bytes out log → RackRuns (frontGates (countsOf r .gates) out′)
+    rack-runs-trimmed t = rack-runs-wrote (done-writes t .written)
 
     -- number 0 says done
     pub trim-number : numberOf (told r) ≡ 0 → told r ≡ reply.Done

@@ -59,7 +59,7 @@ pub record Done-with (n : ℕ) (bytes out log out′ log′ : List ℕ) (counts 
   -- D is as many gates at the front of what is lent as are reported: the count says where D ends, `gates-kept` that nothing is written
   -- behind it
   pub trimmed : Trimmed n (gatesOf bytes) (frontGates (counts .gates) out′) log′ counts
-  -- each weight in its spelling, and at most n * 2^n + n * n gates
+  -- each weight in its spelling, no Z, and at most n * 2^n + n * n gates
   pub written : Writes-for n (gatesOf bytes) (frontGates (counts .gates) out′)
   -- bytes after the last gate, and cells after the last move, stay untouched
   pub gates-kept : KeptFrom (gateBytes * counts .gates) out out′
