@@ -20,6 +20,7 @@ use Rattle.gf2.specs.Sum.{sum}
 use Rattle.gf2.specs.Table.{addAt}
 use Rattle.synth.proofs.Lists.{formed-append, kinds-append, together-first, together-then}
 use Rattle.synth.proofs.OneParity.{formed-parity, length-parity, parity-away, parity-here, parity-together, read-parity}
+use Rattle.synth.proofs.Spelled.{spelling-none}
 use Rattle.synth.specs.Spelling.{Together, kindsAt, spelling}
 use Rattle.synth.specs.Writing.{writeParity, writePhases}
 
@@ -116,11 +117,11 @@ module _ (N n : ℕ) (fit : n ≤ N) (w : List ℕ) (sound : SoundWeights (2 ^ N
   -- one parity, from the first rows
   module _ (k : ℕ) (l : k < 2 ^ n) (r : Reading) (first : r .rows ≡ firstRows N n) where
     here : kindsAt k (writeParity N n k (weight w k)) r ≡ spelling (weight w k)
-    unfolding writeParity kindsAt spelling
+    unfolding writeParity kindsAt
     here = go (ℕ-discrete k 0)
       where
         go : Dec (k ≡ 0) → kindsAt k (writeParity N n k (weight w k)) r ≡ spelling (weight w k)
-        go (yes z) = rw (ap (weight w) z ∙ sound .none)
+        go (yes z) = rw (ap (weight w) z ∙ sound .none) (sym spelling-none)
         go (no z) = parity-here N n k fit z l r first (weight w k) (sound .small k)
 
     away : (s : ℕ) → k ≢ s → kindsAt s (writeParity N n k (weight w k)) r ≡ []
@@ -160,12 +161,13 @@ module _ (N n : ℕ) (fit : n ≤ N) (w : List ℕ) (sound : SoundWeights (2 ^ N
 
   -- each weight is spelled at its parity
   pub kinds-phases : (s : ℕ) → kindsAt s (writePhases N n w (2 ^ n)) (start N n) ≡ spelling (weight w s)
-  unfolding kinds spelling
+  unfolding kinds
   kinds-phases s = go (decLt s (2 ^ n))
     where
       go : Dec (s < 2 ^ n) → kinds s (2 ^ n) ≡ spelling (weight w s)
       go (yes l) = kinds-done (2 ^ n) s l (le-refl (2 ^ n))
-      go (no g) = kinds-none (2 ^ n) s (omega arith) (le-refl (2 ^ n)) ∙ ap spelling (sym (sound .high s (omega arith)))
+      go (no g) =
+          kinds-none (2 ^ n) s (omega arith) (le-refl (2 ^ n)) ∙ sym spelling-none ∙ ap spelling (sym (sound .high s (omega arith)))
 
   -- by gates that stand together
   together-below : (k p : ℕ) → p < k → k ≤ 2 ^ n → weight w p ≢ 0 → Together p (weight w p) (writePhases N n w k) (start N n)

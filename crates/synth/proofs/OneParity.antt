@@ -25,7 +25,7 @@ use Rattle.gf2.specs.Sum.{sum}
 use Rattle.gf2.specs.Table.{addAt}
 use Rattle.synth.proofs.Cnots.{formed-cnots, kinds-cnots, length-cnots, read-cnots}
 use Rattle.synth.proofs.Lists.{formed-append, kinds-append}
-use Rattle.synth.proofs.Spelled.{formed-spell, kinds-away, kinds-here, length-spell, read-spell}
+use Rattle.synth.proofs.Spelled.{formed-spell, kinds-away, kinds-here, length-spell, read-spell, spelling-none}
 use Rattle.synth.specs.Spelling.{Together, kindsAt, spell, spelling}
 use Rattle.synth.specs.Writing.{around, cnots, others, writeParity}
 
@@ -132,8 +132,8 @@ module _ (N n p : ℕ) (fit : n ≤ N) (some : p ≢ 0) (less : p < 2 ^ n) where
     read-parity v h l = unfold added in read-around brought v h l
 
     pub parity-here : (v : ℕ) → v < 8 → kindsAt p (writeParity N n p v) r ≡ spelling v
-    unfolding writeParity kindsAt spelling
-    parity-here zero h = refl
+    unfolding writeParity kindsAt
+    parity-here zero h = sym spelling-none
     parity-here (suc v) h = around-here brought (suc v) h
 
     pub parity-together : (v : ℕ) → Together p (suc v) (writeParity N n p (suc v)) r

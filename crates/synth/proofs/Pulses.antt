@@ -3,7 +3,7 @@
 use mathlib.Core.List.{List, [], _∷_}
 use mathlib.Core.Logic.{_↔_}
 use mathlib.Core.Path.{_∙_, _≡_, refl, subst}
-use Prim.Native.Nat.{_+_, _<_, _≤_, suc, ℕ}
+use Prim.Native.Nat.{_+_, _<_, suc, ℕ}
 use native.Mathlib.Decide.{decLt}
 use native.Mathlib.Omega.{arith}
 use lib.Dec.{T as Holds, eqb, eqb→eq}

@@ -1,6 +1,6 @@
 -- The spelling of a weight: phase gates alone, at most two, that add the weight at the parity their wire holds. One of them is T or T
--- dagger where the weight is odd, none where it is even; none is Z. Each is a test, computed at each weight; nothing else looks at a
--- spelling.
+-- dagger where the weight is odd, none where it is even; none is Z. Each is a test, computed at each weight; but for the match of the code
+-- nothing else looks at a spelling.
 use mathlib.Core.Bool.{Bool, _&&_, false, true}
 use mathlib.Core.List.{List, [], map, _∷_}
 use mathlib.Core.Logic.{_≢_}
@@ -97,6 +97,11 @@ right v l =
       t-if-odd = eqb→eq _ _ (every-at 8 _ t-each v l);
       no-z = eqb→eq _ _ (every-at 8 _ no-z-each v l);
     }
+
+-- weight 0 takes no gate
+pub spelling-none : spelling 0 ≡ []
+unfolding spelling
+spelling-none = refl
 
 -- ---- reading
 

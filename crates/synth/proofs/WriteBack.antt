@@ -24,7 +24,7 @@ use Rattle.synth.proofs.AllParities.{formed-phases, kinds-phases, lengt
 use Rattle.synth.proofs.KindCounts.{kinds-total, t-by-kind}
 use Rattle.synth.proofs.Lists.{formed-append, kinds-append, together-first}
 use Rattle.synth.proofs.RowsWritten.{Brings, kinds-rows, rows-written}
-use Rattle.synth.proofs.Spelled.{occurs-no-z, occurs-odd}
+use Rattle.synth.proofs.Spelled.{occurs-no-z, occurs-odd, spelling-none}
 use Rattle.synth.specs.Entry.{Wrote}
 use Rattle.synth.specs.Spelling.{Together, gatesOfKind, kindsAt, occurs, spelledGates, spelling}
 use Rattle.synth.specs.Writing.{writeList, writePhases, writeRows}
@@ -65,13 +65,15 @@ module _ (N n : ℕ) (fit : n ≤ N) (w rows : List ℕ) (sw : SoundWeights (2 ^
 
   -- no weight from 2 ^ n on
   kinds : (kind v : ℕ) → kindOf kind ≡ Phase v → gatesOfKind kind gs ≡ spelledGates kind w
-  unfolding spelledGates occurs spelling
+  unfolding spelledGates occurs
   kinds kind v e =
       let m : 2 ^ n ≤ 2 ^ N = pow-mono fit in
       let f : ℕ → ℕ = λ p. occurs kind (spelling (weight w p)) in
       kinds-total kind v e N n fit gs (start N n) formed (start-sound N n fit)
       ∙ sum-ext (2 ^ n) (λ p. occurs kind (kindsAt p gs (start N n))) f (λ p l. ap (occurs kind) (spelled p))
-      ∙ sym (sum-stop (2 ^ n) (length w) f (omega (arith, sw .long)) (λ p l. ap (λ (x : ℕ). occurs kind (spelling x)) (sw .high p l)))
+      ∙ sym
+      (sum-stop (2 ^ n) (length w) f (omega (arith, sw .long))
+      (λ p l. ap (λ (x : ℕ). occurs kind (spelling x)) (sw .high p l) ∙ ap (occurs kind) spelling-none))
 
   -- no weight is spelled with a Z
   no-z : gatesOfKind Z gs ≡ 0
