@@ -65,7 +65,7 @@ extern "C" {
 /* The stack that is enough for every call. */
 #define SULMEDRA_STACK_BYTES 65536
 
-/* The first byte of a gate. A CNOT has control a and target b; the others act on wire a, and b is 0. */
+/* The first byte of a gate. A CNOT has control a and target b; the others act on wire a, and b is 0. Z is read and never written. */
 enum sulmedra_kind {
     SULMEDRA_CNOT = 1,
     SULMEDRA_T = 2,
@@ -185,8 +185,8 @@ typedef struct {
 
 /* Trims a circuit on n wires: writes a circuit that sends each basis state to the same state with the same phase modulo 8, and the
  * moves that lead to it. It has no more T and T dagger gates than the circuit and no more than (n * n + n) / 2 + 1, and no legal move
- * is left for its odd set. It has no Z and is spelled as sulmedra_write spells. Which CNOTs are used, the order of parities, and which
- * legal moves are made are free.
+ * is left for its odd set. Its weights are spelled as sulmedra_write spells them, so it has no Z. Which CNOTs are used, the order of
+ * parities, and which legal moves are made are free.
  *   gates  three bytes each, at most 12,288 bytes, any bytes
  *   out    at least 6,336 bytes; the gates are written from its start, and what comes after the last is untouched
  *   log    at least 10,200 bytes; the moves are written from its start, forty bytes each, and what comes after the last is untouched

@@ -2,8 +2,10 @@
 
 use crate::faults::{self, Fault};
 use crate::gates::GATE_BYTES;
+use crate::reading;
 use crate::text::{self, Parsed, TEXT_GATES_BYTES};
 use crate::trimming::{check_without_log, Counts};
+use crate::writing::check_written;
 
 /// The most bytes that are printed: n, the counts and 2,112 gates.
 pub const REPLY_BYTES: usize = 14_807;
@@ -78,6 +80,7 @@ pub fn check_printed(text: &[u8], printed: &[u8]) -> Result<Result<Printed, Faul
         return Err(format!("{} wires became {}", circuit.n, said.n));
     }
     check_without_log(circuit.n, &circuit.gates, &said.gates, &said.counts)?;
+    check_written(circuit.n, &reading::read(circuit.n, &said.gates), &said.gates)?;
     Ok(Ok(said))
 }
 

@@ -71,6 +71,16 @@ fn other_forms_are_noticed() {
     }
 }
 
+/// Weights 4 and 5 as document 01 spelled them before document 02.
+#[test]
+fn a_printed_z_is_noticed() {
+    assert!(check_printed(b"01\n040000\n", b"01\n0000 0000 0000 0000\n030000\n030000\n").is_ok(), "S S");
+    assert!(check_printed(b"01\n040000\n", b"01\n0000 0000 0000 0000\n040000\n").is_err(), "Z");
+    let text = b"01\n040000\n020000\n";
+    assert!(check_printed(text, b"01\n0001 0001 0001 0000\n050000\n060000\n").is_ok(), "S dagger T dagger");
+    assert!(check_printed(text, b"01\n0001 0001 0001 0000\n040000\n020000\n").is_err(), "Z T");
+}
+
 /// Each count by itself, another wire count, and cheats on the gates.
 #[test]
 fn wrong_replies_are_noticed() {

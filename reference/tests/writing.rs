@@ -1,4 +1,4 @@
-//! Lists that the library writes: read back by brute force, spelled as the paper says, and no longer than it allows.
+//! Lists that the library writes: read back by brute force, spelled as the papers say, and no longer than they allow.
 
 use sulmedra_reference::comparison::writing::write;
 use sulmedra_reference::entries::Reply;

@@ -74,7 +74,7 @@ int same_outcome(outcome one, outcome other);
 /* The T and T dagger gates of a list. */
 size_t t_gates(const uint8_t *gates, size_t len);
 
-/* A rack without a native Z knows the kind of every gate. */
+/* Whether a rack without a native Z knows the kind of every gate. */
 int rack_runs(const uint8_t *gates, size_t len);
 
 #endif

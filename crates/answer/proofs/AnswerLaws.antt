@@ -177,6 +177,6 @@ printed-reads-back n list bytes said p =
     } in
     ap (λ (gs : List Gate). readText (wiresLine n ++ gateLines gs)) (sym (gates-of-bytes D)) ∙ circuit-reads-back n (bytesOf D) sayable
 
--- and a rack without a native Z can run them (document 02, 2.6)
+-- a rack without a native Z can run D, whose gates are printed (document 02, 2.6)
 pub rack-runs-printed : (n : ℕ) (C : List Gate) (bytes : List ℕ) (p : PrintsTrim n C bytes) → RackRuns (p .D)
 rack-runs-printed n C bytes p = rack-runs-wrote (p .written)

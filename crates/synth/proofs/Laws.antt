@@ -34,7 +34,7 @@ use Rattle.synth.specs.declared.Written.the-variants.{Done, Refused}
 
 -- ---- demand 2: a list written from sound weights and rows reads back as exactly those. For every n and N
 
--- there is such a list, of at most n * 2^n + n * n gates, in which each weight is spelled as document 01 says: the fields of Wrote
+-- there is such a list, of at most n * 2^n + n * n gates, in which each weight is spelled as the papers say: the fields of Wrote
 pub sound-is-written : (N n : ℕ) → n ≤ N → (w rows : List ℕ) → SoundWeights (2 ^ N) n w → SoundRows N n rows
     → (gs : List Gate) × Wrote N n (readingLent w rows) gs
 sound-is-written N n fit w rows sw sr = (writeList N n w rows, list-written N n fit w rows sw sr)
@@ -46,7 +46,7 @@ kinds-are-counted N n fit kind v e gs f = kinds-total kind v e N n fit gs (start
 
 -- ---- document 02, 2.6: a rack without a native Z, that knows CNOT, T, S, S dagger and T dagger
 
--- it can run an accepted list exactly where the list holds no Z
+-- it can run a list whose gates have no fault exactly where the list holds no Z
 pub rack-runs-exactly : (n : ℕ) (gs : List Gate) → AllWellFormed n gs → RackRuns gs ↔ (gatesOfKind Z gs ≡ 0)
 rack-runs-exactly n gs f = runs-without-z n gs f
 

@@ -1,5 +1,5 @@
--- The rack without a native Z can run an accepted list exactly where the list holds no Z: every other kind is in its pulse table. That is
--- one test, computed at each kind up to the last.
+-- The rack without a native Z can run a list whose gates have no fault exactly where the list holds no Z: every other kind is in its pulse
+-- table. That is one test, computed at each kind up to the last.
 use mathlib.Core.List.{List, [], _∷_}
 use mathlib.Core.Logic.{_↔_}
 use mathlib.Core.Path.{_∙_, _≡_, refl, subst}

@@ -75,14 +75,6 @@ module _ (N n : ℕ) (fit : n ≤ N) (w rows : List ℕ) (sw : SoundWeights (2 ^
       (sum-stop (2 ^ n) (length w) f (omega (arith, sw .long))
       (λ p l. ap (λ (x : ℕ). occurs kind (spelling x)) (sw .high p l) ∙ ap (occurs kind) spelling-none))
 
-  -- no weight is spelled with a Z
-  no-z : gatesOfKind Z gs ≡ 0
-  unfolding spelledGates kindOf
-  no-z =
-      kinds Z 4 refl
-      ∙ sum-ext (length w) (λ p. occurs Z (spelling (weight w p))) (λ p. 0) (λ p l. occurs-no-z (weight w p) (sw .small p))
-      ∙ sum-zero (length w)
-
   -- one T or T dagger for an odd weight, none for an even one
   t-gates : tGates gs ≡ memberCount (oddSet w)
   unfolding spelledGates kindOf
@@ -94,6 +86,14 @@ module _ (N n : ℕ) (fit : n ≤ N) (w rows : List ℕ) (sw : SoundWeights (2 ^
       (λ p l. occurs-odd (weight w p) (sw .small p) ∙ sym (odd-mark w p))
       ∙ ap (λ (k : ℕ). sum k (λ p. getD (oddSet w) p 0)) (sym (length-odd w)) ∙ sym (members-sum (oddSet w) (odd-bits w))
 
+  -- no weight is spelled with a Z
+  no-z : gatesOfKind Z gs ≡ 0
+  unfolding spelledGates kindOf
+  no-z =
+      kinds Z 4 refl
+      ∙ sum-ext (length w) (λ p. occurs Z (spelling (weight w p))) (λ p. 0) (λ p l. occurs-no-z (weight w p) (sw .small p))
+      ∙ sum-zero (length w)
+
   pub list-written : Wrote N n (readingLent w rows) (writeList N n w rows)
   unfolding gs
   list-written =
@@ -104,6 +104,6 @@ module _ (N n : ℕ) (fit : n ≤ N) (w rows : List ℕ) (sw : SoundWeights (2 ^
         spelled = spelled;
         together = together;
         kinds = kinds;
-        no-z = no-z;
         t-gates = t-gates;
+        no-z = no-z;
       }

@@ -49,10 +49,10 @@ pub record Wrote (N n : ℕ) (r : Reading) (gs : List Gate) : Type 0 where
   pub together : (p : ℕ) → weight (r .weights) p ≢ 0 → Together p (weight (r .weights) p) gs (start N n)
   -- so there are as many gates of each kind of phase gate as the spellings of all weights have
   pub kinds : (kind v : ℕ) → kindOf kind ≡ Phase v → gatesOfKind kind gs ≡ spelledGates kind (r .weights)
-  -- of which none has a Z
-  pub no-z : gatesOfKind Z gs ≡ 0
   -- and as many T and T dagger gates as the odd set has members
   pub t-gates : tGates gs ≡ memberCount (oddSet (r .weights))
+  -- and no Z
+  pub no-z : gatesOfKind Z gs ≡ 0
 
 -- ---- the lent gates
 

@@ -29,7 +29,7 @@ spellings =
     ∷ (T-dagger ∷ [])
     ∷ []
 
--- and one weight
+-- the kinds of the gates that spell weight v; none beyond 7
 unfoldable pub spelling : ℕ → List ℕ
 spelling v = getD spellings v []
 
