@@ -3,18 +3,17 @@ use mathlib.Core.List.{List, [], _++_, _∷_}
 use mathlib.Core.Logic.{_≢_, inl, inr}
 use mathlib.Core.Path.{_∙_, _≡_, ap, refl, subst, sym}
 use Prim.Native.Nat.{_+_, _<_, _≤_, suc, zero, ℕ}
-use native.Mathlib.Decide.{decLt}
 use native.Mathlib.Omega.{arith}
 use lib.ListN.{drop, length, take}
 use lib.Seq.{take-append-seam}
 use Rattle.circuit.proofs.Bytes.{gates-in, gates-of-bytes, length-bytes}
-use Rattle.circuit.proofs.GateKinds.{kind-above, t-is-odd}
+use Rattle.circuit.proofs.GateKinds.{known-kind, t-is-odd}
 use Rattle.circuit.proofs.Judging.{call-number, call-told, refuse-done, short-pass}
 use Rattle.circuit.proofs.Laws.{fault-is-first, odd-set-no-larger}
 use Rattle.circuit.proofs.Placing.{placed-kept}
 use Rattle.circuit.specs.Faults.{AllWellFormed, Has, KindHas, KindWellFormed, WellFormed, firstFault, gateAt, lentOutput}
 use Rattle.circuit.specs.Faults.{sameWire, shortFault}
-use Rattle.circuit.specs.Gate.{Gate, bytesOf, gate, gatesOf, kindOf, lastKind, tGates}
+use Rattle.circuit.specs.Gate.{Gate, bytesOf, gate, gatesOf, kindOf, tGates}
 use Rattle.circuit.specs.Lent.{KeptFrom}
 use Rattle.circuit.specs.Limits.{maxGates, maxWires, maxWrittenGates}
 use Rattle.circuit.specs.Replies.{numberOf, placeOf}
@@ -146,16 +145,12 @@ module _ (n : ℕ) (list : List ℕ) (said : Sayable n list) where
 
 -- the three numbers of a well-formed gate are bytes
 gate-bytes : (n : ℕ) → n ≤ maxWires → (kind a b : ℕ) → WellFormed n (gate kind a b) → AreBytes kind a b
-gate-bytes n h kind a b w = go (decLt lastKind kind)
+gate-bytes n h kind a b w = let f = wires (kindOf kind) w in (omega (arith, known-kind n kind a b w), f .0, f .1)
   where
     wires : (k : Kind) → KindWellFormed n k a b → (a < byteValues) × (b < byteValues)
     wires Cnot f = (omega (arith, f .0), omega (arith, f .1))
     wires (Phase v) f = (omega (arith, f .0), omega (arith, f .1))
     wires Unknown f = absurd f
-
-    go : Dec (lastKind < kind) → AreBytes kind a b
-    go (yes l) = absurd (subst (λ (k : Kind). KindWellFormed n k a b) (kind-above kind l) w)
-    go (no l) = let f = wires (kindOf kind) w in (omega arith, f .0, f .1)
 
 written-bytes : (n : ℕ) → n ≤ maxWires → (gs : List Gate) → AllWellFormed n gs → AllBytes (bytesOf gs)
 unfolding bytesOf

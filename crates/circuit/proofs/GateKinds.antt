@@ -1,7 +1,7 @@
 -- The kind of a gate, by its byte: what the code's match tells, and that T and T dagger are the gates that add an odd phase. What holds of
 -- every kind is one test, computed at each up to the last.
-use mathlib.Core.Path.{_≡_}
-use Prim.Native.Nat.{_%_, _<_, suc, ℕ}
+use mathlib.Core.Path.{_≡_, subst}
+use Prim.Native.Nat.{_%_, _<_, _≤_, suc, ℕ}
 use native.Mathlib.Decide.{decLt}
 use native.Mathlib.Omega.{arith}
 use lib.Dec.{T as Holds, eqb, eqb→eq, ltb, ltb→lt}
@@ -10,7 +10,8 @@ use Rattle.gf2.proofs.Every.{every-at}
 use Rattle.gf2.proofs.Sum.{delta-other}
 use Rattle.gf2.specs.Every.{every}
 use Rattle.gf2.specs.Sum.{delta}
-use Rattle.circuit.specs.Gate.{CNOT, S, S-dagger, T, T-dagger, Z, isT, kindOf, lastKind}
+use Rattle.circuit.specs.Faults.{KindWellFormed, WellFormed}
+use Rattle.circuit.specs.Gate.{CNOT, S, S-dagger, T, T-dagger, Z, gate, isT, kindOf, lastKind}
 use Rattle.circuit.specs.declared.gates.Kind.{Kind}
 use Rattle.circuit.specs.declared.gates.Kind.the-variants.{Cnot, Phase, Unknown}
 
@@ -26,6 +27,14 @@ kind-above kind h =
       ne-eqb kind S-dagger (omega arith),
       ne-eqb kind T-dagger (omega arith),
     )
+
+-- so a gate without a fault has one of the kinds
+pub known-kind : (n kind a b : ℕ) → WellFormed n (gate kind a b) → kind ≤ lastKind
+known-kind n kind a b w = go (decLt lastKind kind)
+  where
+    go : Dec (lastKind < kind) → kind ≤ lastKind
+    go (yes h) = absurd (subst (λ (k : Kind). KindWellFormed n k a b) (kind-above kind h) w)
+    go (no h) = omega arith
 
 -- what a gate adds to the phase if bit a is set
 abbrev pub turnOf : Kind → ℕ

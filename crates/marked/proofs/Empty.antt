@@ -18,7 +18,7 @@ use Rattle.gf2.proofs.Sum.{delta-same, sum-ext, sum-zero}
 use Rattle.moves.specs.Log.{logged}
 use Rattle.moves.specs.Replay.{Replays}
 use Rattle.phase.specs.NewWeights.{newWeights}
-use Rattle.synth.proofs.Spelled.{spelling-none}
+use Rattle.synth.proofs.Spelled.{occurs-none}
 use Rattle.synth.specs.Spelling.{gatesOfKind, occurs, spelledGates, spelling}
 use Rattle.trimmer.specs.Entry.{Writes-for, noCounts}
 use Rattle.trimmer.specs.Trimmed.{Trimmed, oddSetOf, weightsOf}
@@ -40,10 +40,10 @@ no-gate (gate kind a b ∷ gs) f none = absurd (go (kindOf kind) refl (f .0))
 
 -- where every weight is 0, nothing is spelled
 unspelled : (kind N : ℕ) → spelledGates kind (noWeights N) ≡ 0
-unfolding spelledGates occurs
+unfolding spelledGates
 unspelled kind N =
     sum-ext (length (noWeights N)) (λ p. occurs kind (spelling (weight (noWeights N) p))) (λ p. 0)
-    (λ p l. ap (λ (v : ℕ). occurs kind (spelling v)) (no-weight N p) ∙ ap (occurs kind) spelling-none)
+    (λ p l. occurs-none kind (weight (noWeights N) p) (no-weight N p))
     ∙ sum-zero (length (noWeights N))
 
 -- a list on one wire whose trim has nothing to write: no T gate, no odd weight, and no new weights

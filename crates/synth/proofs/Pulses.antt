@@ -2,12 +2,11 @@
 -- table. That is one test, computed at each kind up to the last.
 use mathlib.Core.List.{List, [], _∷_}
 use mathlib.Core.Logic.{_↔_}
-use mathlib.Core.Path.{_∙_, _≡_, refl, subst}
-use Prim.Native.Nat.{_+_, _<_, suc, ℕ}
-use native.Mathlib.Decide.{decLt}
+use mathlib.Core.Path.{_∙_, _≡_, refl}
+use Prim.Native.Nat.{_+_, suc, ℕ}
 use native.Mathlib.Omega.{arith}
 use lib.Dec.{T as Holds, eqb, eqb→eq}
-use Rattle.circuit.proofs.GateKinds.{kind-above}
+use Rattle.circuit.proofs.GateKinds.{known-kind}
 use Rattle.circuit.specs.Faults.{AllWellFormed, KindWellFormed, WellFormed}
 use Rattle.circuit.specs.Gate.{Gate, Z, gate, kindOf, lastKind}
 use Rattle.circuit.specs.declared.gates.Kind.{Kind}
@@ -29,16 +28,13 @@ unfolding every occurs delta kindOf
 kinds-each = tt
 
 in-table : (n kind a b : ℕ) → WellFormed n (gate kind a b) → occurs kind pulses + delta Z kind ≡ 1
-in-table n kind a b w = go (decLt lastKind kind)
+in-table n kind a b w =
+    eqb→eq _ _ (every-at (suc lastKind) _ kinds-each kind (omega (arith, known-kind n kind a b w))) ∙ is-one (kindOf kind) w
   where
     is-one : (k : Kind) → KindWellFormed n k a b → isKind k ≡ 1
     is-one Cnot f = refl
     is-one (Phase v) f = refl
     is-one Unknown f = absurd f
-
-    go : Dec (lastKind < kind) → occurs kind pulses + delta Z kind ≡ 1
-    go (yes h) = absurd (subst (λ (k : Kind). KindWellFormed n k a b) (kind-above kind h) w)
-    go (no h) = eqb→eq _ _ (every-at (suc lastKind) _ kinds-each kind (omega arith)) ∙ is-one (kindOf kind) w
 
 module _ (n : ℕ) where
   no-z-in : (gs : List Gate) → AllWellFormed n gs → RackRuns gs → gatesOfKind Z gs ≡ 0

@@ -103,6 +103,11 @@ pub spelling-none : spelling 0 ≡ []
 unfolding spelling
 spelling-none = refl
 
+-- of no kind
+pub occurs-none : (kind v : ℕ) → v ≡ 0 → occurs kind (spelling v) ≡ 0
+unfolding occurs
+occurs-none kind v e = ap (λ (x : ℕ). occurs kind (spelling x)) e ∙ ap (occurs kind) spelling-none
+
 -- ---- reading
 
 addAt-twice : (w : List ℕ) (q x y : ℕ) → q < length w → addAt 8 (addAt 8 w q x) q y ≡ addAt 8 w q (x + y)
@@ -181,11 +186,3 @@ module _ (p v t : ℕ) (small : v < 8) (r : Reading) where
   pub kinds-away : row r t ≢ p → kindsAt p (spell v t) r ≡ []
   unfolding spell
   kinds-away e = kinds-on p t false (spelling v) (right v small .phases) r (ne-eqb (row r t) p e)
-
--- ---- T and T dagger, and Z
-
-pub occurs-odd : (v : ℕ) → v < 8 → occurs T (spelling v) + occurs T-dagger (spelling v) ≡ v % 2
-occurs-odd v l = right v l .t-if-odd
-
-pub occurs-no-z : (v : ℕ) → v < 8 → occurs Z (spelling v) ≡ 0
-occurs-no-z v l = right v l .no-z

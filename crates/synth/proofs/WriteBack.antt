@@ -24,7 +24,7 @@ use Rattle.synth.proofs.AllParities.{formed-phases, kinds-phases, lengt
 use Rattle.synth.proofs.KindCounts.{kinds-total, t-by-kind}
 use Rattle.synth.proofs.Lists.{formed-append, kinds-append, together-first}
 use Rattle.synth.proofs.RowsWritten.{Brings, kinds-rows, rows-written}
-use Rattle.synth.proofs.Spelled.{occurs-no-z, occurs-odd, spelling-none}
+use Rattle.synth.proofs.Spelled.{occurs-none, right}
 use Rattle.synth.specs.Entry.{Wrote}
 use Rattle.synth.specs.Spelling.{Together, gatesOfKind, kindsAt, occurs, spelledGates, spelling}
 use Rattle.synth.specs.Writing.{writeList, writePhases, writeRows}
@@ -65,15 +65,13 @@ module _ (N n : ℕ) (fit : n ≤ N) (w rows : List ℕ) (sw : SoundWeights (2 ^
 
   -- no weight from 2 ^ n on
   kinds : (kind v : ℕ) → kindOf kind ≡ Phase v → gatesOfKind kind gs ≡ spelledGates kind w
-  unfolding spelledGates occurs
+  unfolding spelledGates
   kinds kind v e =
       let m : 2 ^ n ≤ 2 ^ N = pow-mono fit in
       let f : ℕ → ℕ = λ p. occurs kind (spelling (weight w p)) in
       kinds-total kind v e N n fit gs (start N n) formed (start-sound N n fit)
       ∙ sum-ext (2 ^ n) (λ p. occurs kind (kindsAt p gs (start N n))) f (λ p l. ap (occurs kind) (spelled p))
-      ∙ sym
-      (sum-stop (2 ^ n) (length w) f (omega (arith, sw .long))
-      (λ p l. ap (λ (x : ℕ). occurs kind (spelling x)) (sw .high p l) ∙ ap (occurs kind) spelling-none))
+      ∙ sym (sum-stop (2 ^ n) (length w) f (omega (arith, sw .long)) (λ p l. occurs-none kind (weight w p) (sw .high p l)))
 
   -- one T or T dagger for an odd weight, none for an even one
   t-gates : tGates gs ≡ memberCount (oddSet w)
@@ -83,7 +81,7 @@ module _ (N n : ℕ) (fit : n ≤ N) (w rows : List ℕ) (sw : SoundWeights (2 ^
       let g : ℕ → ℕ = λ p. occurs T-dagger (spelling (weight w p)) in
       t-by-kind gs ∙ ap₂ _+_ (kinds T 1 refl) (kinds T-dagger 7 refl) ∙ sym (sum-add (length w) f g)
       ∙ sum-ext (length w) (λ p. f p + g p) (λ p. getD (oddSet w) p 0)
-      (λ p l. occurs-odd (weight w p) (sw .small p) ∙ sym (odd-mark w p))
+      (λ p l. right (weight w p) (sw .small p) .t-if-odd ∙ sym (odd-mark w p))
       ∙ ap (λ (k : ℕ). sum k (λ p. getD (oddSet w) p 0)) (sym (length-odd w)) ∙ sym (members-sum (oddSet w) (odd-bits w))
 
   -- no weight is spelled with a Z
@@ -91,7 +89,7 @@ module _ (N n : ℕ) (fit : n ≤ N) (w rows : List ℕ) (sw : SoundWeights (2 ^
   unfolding spelledGates kindOf
   no-z =
       kinds Z 4 refl
-      ∙ sum-ext (length w) (λ p. occurs Z (spelling (weight w p))) (λ p. 0) (λ p l. occurs-no-z (weight w p) (sw .small p))
+      ∙ sum-ext (length w) (λ p. occurs Z (spelling (weight w p))) (λ p. 0) (λ p l. right (weight w p) (sw .small p) .no-z)
       ∙ sum-zero (length w)
 
   pub list-written : Wrote N n (readingLent w rows) (writeList N n w rows)
