@@ -1,6 +1,6 @@
--- A set is balanced exactly if its columns, for the lowest wire of z, xor to 0; and the loop that takes their xor.
+-- A set is balanced exactly if it xors to 0, and its columns, for the lowest wire of z, too; and the loop that takes such a xor.
 use mathlib.Core.List.{List, map}
-use mathlib.Core.Logic.{_≢_}
+use mathlib.Core.Logic.{_↔_, _≢_}
 use mathlib.Core.Path.{_∙_, _≡_, ap, sym}
 use Prim.Native.Nat.{_+_, _<_, _^_, suc, ℕ}
 use native.Mathlib.Nat.{le-refl}
@@ -11,22 +11,22 @@ use lib.ListN.{drop, getD, length}
 use lib.Seq.{drop-cons, drop-length}
 use Rattle.gf2.proofs.Leading.{lowest-set}
 use Rattle.gf2.proofs.Xor.{xor-assoc}
-use Rattle.gf2.specs.Over.{Below, xorAll}
+use Rattle.gf2.specs.Over.{xorAll}
 use Rattle.gf2.specs.Parity.{lowest}
 use Rattle.moves.proofs.OneXor.{balanced-iff}
-use Rattle.moves.specs.Kappa.{kappa}
+use Rattle.moves.specs.Column.{column}
 use Rattle.moves.specs.Move.{Balanced}
-use Rattle.carry.proofs.Deciding.{decides-as, decides-equal}
-use Rattle.carry.specs.Decides.{Decides}
+use Rattle.moves.proofs.Answers.{decides-as, decides-equal}
+use Rattle.moves.specs.Answer.{Decides}
 
--- what the loop keeps: s, with the columns that are still to come, makes up the xor of all
+-- what the loop keeps: s, with the f of those that are still to come, makes up the xor of all
 pub record XorTo (f : ℕ → ℕ) (Y : List ℕ) (i s : ℕ) : Type 0 where
   pub all : bitXor s (xorAll (map f (drop i Y))) ≡ xorAll (map f Y)
 
 pub xor-none : {f : ℕ → ℕ} {Y : List ℕ} → XorTo f Y 0 0
 xor-none {f} {Y} = record { all = xor-zero-l (xorAll (map f Y)) }
 
--- x is the column of y, which stands at i
+-- x is that of y, which stands at i
 pub xor-next : {f : ℕ → ℕ} {Y : List ℕ} {i s x y : ℕ} → XorTo f Y i s → i < length Y → y ≡ getD Y i 0 → x ≡ f y
     → XorTo f Y (i + 1) (bitXor s x)
 unfolding xorAll
@@ -43,10 +43,14 @@ unfolding xorAll
 xor-end {f} {Y} {i} {s} h e =
     sym (xor-zero-r s) ∙ ap (λ (q : List ℕ). bitXor s (xorAll (map f q))) (sym (ap (λ (j : ℕ). drop j Y) e ∙ drop-length Y)) ∙ h .all
 
--- t is the lowest wire of z, and N the most wires
-pub balanced-by-xor : {N z t s : ℕ} {Y : List ℕ} → z ≢ 0 → z < 2 ^ N → t ≡ lowest N z → Below (2 ^ N) Y
-    → s ≡ xorAll (map (kappa N z t) Y) → Decides (eqb s 0) (Balanced N z Y)
-balanced-by-xor {N} {z} {t} {s} {Y} some fits is-wire below e =
-    let low = lowest-set N N z (le-refl N) some fits in
-    let b = balanced-iff N z t (rw is-wire (low .0)) (rw is-wire (low .1)) Y below in
-    decides-as (λ q. b .1 (sym e ∙ q)) (λ q. e ∙ b .0 q) (decides-equal s 0)
+-- s is the xor of Y, and v that of its columns for the lowest wire of z; N is the most wires
+module _ {N z s v : ℕ} {Y : List ℕ} (some : z ≢ 0) (fits : z < 2 ^ N) (s-is : s ≡ xorAll Y)
+    (v-is : v ≡ xorAll (map (column N z (lowest N z)) Y)) where
+  both : Balanced N z Y ↔ ((xorAll Y ≡ 0) × (xorAll (map (column N z (lowest N z)) Y) ≡ 0))
+  both = let low = lowest-set N N z (le-refl N) some fits in balanced-iff N z (lowest N z) (low .0) (low .1) Y
+
+  pub not-balanced : s ≢ 0 → Balanced N z Y → ⊥
+  not-balanced ne b = ne (s-is ∙ both .0 b .0)
+
+  pub balanced-by-columns : s ≡ 0 → Decides (eqb v 0) (Balanced N z Y)
+  balanced-by-columns e = decides-as (λ q. both .1 (sym s-is ∙ e, sym v-is ∙ q)) (λ b. v-is ∙ both .0 b .1) (decides-equal v 0)

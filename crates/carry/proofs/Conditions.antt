@@ -16,8 +16,9 @@ use Rattle.gf2.specs.Over.{Below}
 use Rattle.moves.proofs.Logs.{cells-checked}
 use Rattle.moves.specs.Log.{LegalCells, MoveForm, setOf, zOf}
 use Rattle.moves.specs.Move.{Legal, Separates}
-use Rattle.carry.proofs.Deciding.{decides-as}
-use Rattle.carry.specs.Decides.{AllMembers, Decides}
+use Rattle.moves.proofs.Answers.{decides-as}
+use Rattle.moves.specs.Answer.{Decides}
+use Rattle.carry.specs.Decides.{AllMembers}
 
 -- a number beyond the marks is no member
 pub member-inside : (marks : List ℕ) (p : ℕ) → Member marks p → p < length marks

@@ -1,14 +1,8 @@
--- What a test of the code answers, and the conditions that one test each decides.
-use mathlib.Core.Bool.{Bool, false, true}
+-- The conditions that one test each decides.
 use mathlib.Core.List.{List}
-use mathlib.Core.Path.{_≡_}
 use Prim.Native.Nat.{ℕ}
 use Rattle.circuit.specs.OddSet.{Member}
 use Rattle.moves.specs.Sets.{In}
-
--- the answer is true exactly if P holds
-abbrev pub Decides : Bool → Type 0 → Type 0
-Decides r P = (r ≡ true → P) × (r ≡ false → P → ⊥)
 
 -- all of Y are members
 abbrev pub AllMembers : List ℕ → List ℕ → Type 0

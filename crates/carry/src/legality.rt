@@ -1,16 +1,20 @@
 // Whether cells are a legal move for these marks (document 01, "Legal moves"): one function for each condition, one loop in each. The cells
 // come from outside and may be any numbers.
+ghost use mathlib.Core.List.{map};
 ghost use mathlib.Core.Logic.{_≢_};
 ghost use mathlib.Core.Path.{_≡_};
 ghost use Prim.Native.Nat.{_<_, _≤_};
 ghost use lib.ListN.{length};
 ghost use Rattle.circuit.specs.Limits.{maxMembers, maxWires, parities, tableBytes};
 ghost use Rattle.circuit.specs.OddSet.{Member};
-ghost use Rattle.gf2.specs.Over.{Below};
+ghost use Rattle.gf2.specs.Over.{Below, xorAll};
+ghost use Rattle.gf2.specs.Parity.{lowest};
+ghost use Rattle.moves.specs.Answer.{Decides};
+ghost use Rattle.moves.specs.Column.{column};
 ghost use Rattle.moves.specs.Log.{LegalCells, MoveForm, ZeroFrom, setOf};
 ghost use Rattle.moves.specs.Move.{Balanced, Legal, Separates};
 ghost use Rattle.moves.specs.Sets.{Ascending, In};
-ghost use Rattle.carry.specs.Decides.{AllMembers, Decides, Outside};
+ghost use Rattle.carry.specs.Decides.{AllMembers, Outside};
 use circuit::cells::cell_at;
 use circuit::cells::part;
 use circuit::limits::MAX_MEMBERS;
@@ -161,10 +165,33 @@ fn contains(ys: &[Parity], b: Parity) -> bool
     false
 }
 
-// The xor of Y and every triple of wires, in one xor of columns. Internal: z and Y are parities.
+// The xor of Y is 0, and so is that of its columns, which stand for every triple of wires. Internal: z and Y are parities.
 fn is_balanced(z: Parity, ys: &[Parity]) -> bool
     requires { ⌜ (z ≢ 0) × (z < parities) × Below parities (now ys) ⌝ }
     ensures { λ r. ⌜ Decides r (Balanced maxWires z (now (ys .entry))) ⌝ }
+{
+    if xor_of(ys) != 0 {
+        return false;
+    }
+    columns_xor(z, ys) == 0
+}
+
+fn xor_of(ys: &[Parity]) -> Parity
+    ensures { λ r. ⌜ r ≡ xorAll (now (ys .entry)) ⌝ }
+{
+    let mut sum: Parity = 0;
+    let mut i: usize = 0;
+    while i < ys.len() {
+        sum ^= cell_at(ys, i);
+        i += 1;
+    }
+    sum
+}
+
+// For the lowest wire of z.
+fn columns_xor(z: Parity, ys: &[Parity]) -> u64
+    requires { ⌜ (z ≢ 0) × (z < parities) × Below parities (now ys) ⌝ }
+    ensures { λ r. ⌜ r ≡ xorAll (map (column maxWires z (lowest maxWires z)) (now (ys .entry))) ⌝ }
 {
     let table = products();
     let t = lowest(z);
@@ -174,5 +201,5 @@ fn is_balanced(z: Parity, ys: &[Parity]) -> bool
         sum ^= column(&table, z, t, cell_at(ys, i));
         i += 1;
     }
-    sum == 0
+    sum
 }

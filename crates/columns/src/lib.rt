@@ -1,10 +1,9 @@
-// Columns over the product table: one number for a parity y and a number z, by which a set is seen to meet document 01's conditions on
-// pairs and triples of wires in a single xor. The finder and the check of a move share them. Internal: no entry for users.
+// Columns over the product table: one number for a number z and a parity y, the same for y ^ z. A set whose xor is 0 meets document 01's
+// conditions on triples of wires where its columns xor to 0. The finder and the check of a move share them. Internal: no entry for users.
 ghost use mathlib.Core.Path.{_≡_};
-ghost use Prim.Native.Nat.{_+_, _<_, _≤_, _^_};
+ghost use Prim.Native.Nat.{_<_, _^_};
 ghost use Rattle.circuit.specs.Limits.{maxWires, parities, productBits};
-ghost use Rattle.moves.specs.Kappa.{kappa};
-ghost use Rattle.moves.specs.Product.{tri};
+ghost use Rattle.moves.specs.Column.{bar, column};
 ghost use Rattle.columns.specs.Table.{ProductTable};
 
 pub mod table;
@@ -13,22 +12,19 @@ use circuit::limits::PARITIES;
 use circuit::limits::Parity;
 use table::product;
 
-// The column of y for z and its wire t: the product entry of y or, where y names t, of y ^ z, with the bit of (t, t) then set.
+// The column of y for z and its wire t: the product entry of the one of y and y ^ z that does not name t.
 pub fn column(products: &[u64; PARITIES], z: Parity, t: usize, y: Parity) -> u64
     requires { ⌜ ProductTable (now products) ⌝ }
     requires { ⌜ (t < maxWires) × (z < parities) × (y < parities) ⌝ }
-    ensures { λ r. ⌜ (r ≡ kappa maxWires z t y) × (r < 2 ^ productBits) ⌝ }
+    ensures { λ r. ⌜ (r ≡ column maxWires z t y) × (r < 2 ^ productBits) ⌝ }
 {
-    if (y >> t) % 2 == 0 {
-        return product(products, y);
-    }
-    product(products, y ^ z) ^ (1 << place(t, t))
+    product(products, bar(z, t, y))
 }
 
-// The place of the pair of wires i <= j in a product entry.
-fn place(i: usize, j: usize) -> usize
-    requires { ⌜ (i ≤ j) × (j < maxWires) ⌝ }
-    ensures { λ r. ⌜ (r ≡ tri j + i) × (r < productBits) ⌝ }
+// Of y and y ^ z the one without wire t; without a branch, since members are hard to foresee.
+fn bar(z: Parity, t: usize, y: Parity) -> Parity
+    requires { ⌜ (t < maxWires) × (z < parities) × (y < parities) ⌝ }
+    ensures { λ r. ⌜ (r ≡ bar z t y) × (r < parities) ⌝ }
 {
-    j * (j + 1) / 2 + i
+    y ^ ((y >> t) % 2 * z)
 }

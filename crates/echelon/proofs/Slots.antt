@@ -1,8 +1,8 @@
 -- The steps of the code on the slots, over plain numbers and lists.
 use mathlib.Core.List.{List}
 use mathlib.Core.Logic.{_≢_}
-use mathlib.Core.Path.{_∙_, _≡_, ap, subst, sym}
-use Prim.Native.Nat.{_%_, _*_, _-_, _<_, _^_, _≤_, suc, ℕ}
+use mathlib.Core.Path.{_∙_, _≡_, ap, refl, sym}
+use Prim.Native.Nat.{_%_, _*_, _+_, _-_, _/_, _<_, _^_, _≤_, suc, ℕ}
 use native.Mathlib.Decide.{decLt, ℕ-discrete}
 use native.Mathlib.Omega.{arith}
 use lib.Bits.{bitXor}
@@ -12,11 +12,12 @@ use lib.Pow.{pow-mono}
 use lib.Seq.{getD-set-other, getD-set-same}
 use Rattle.circuit.proofs.Steps.{shifted}
 use Rattle.circuit.specs.Limits.{parities, productBits}
-use Rattle.gf2.proofs.Basis.{inserted-none, inserted-slot}
-use Rattle.gf2.proofs.Echelon.{step-lt}
-use Rattle.gf2.specs.Echelon.{Reached, Shape, Stopped}
+use Rattle.gf2.proofs.Basis.{by-off, by-on}
+use Rattle.gf2.proofs.Echelon.{filled-shape, reached-step, step-lt}
+use Rattle.gf2.specs.Bit.{bit}
+use Rattle.gf2.specs.Echelon.{Reached, Shape, Stopped, byMembers}
 use Rattle.gf2.specs.Over.{Below}
-use Rattle.echelon.specs.Slots.{LeadingBit, Puts, Slots}
+use Rattle.echelon.specs.Slots.{LeadingBit, Opens, OpensSlot, Slots}
 
 -- ---- the leading bit, from the count of zeros above it in a word of w + 1 bits
 
@@ -39,14 +40,21 @@ leading-bit w x ne l h =
 
 -- ---- one step of reducing
 
-module _ (vec mask : List ℕ) (shape : Shape productBits vec) (left s : ℕ) (b : LeadingBit left s) where
+module _ {vec : List ℕ} {left s : ℕ} (shape : Shape productBits vec) (b : LeadingBit left s) where
   -- the slot is empty
-  pub stops : (v m : ℕ) → getD vec s 0 ≡ 0 → Reached vec mask v left m → Stopped productBits vec mask v s left m
-  stops v m e r = record { slot = b .slot; empty = e; lo = b .lo; hi = b .hi; reached = r }
+  pub stops : {v used : ℕ} → getD vec s 0 ≡ 0 → Reached vec v left used → Stopped productBits vec v s left used
+  stops e r = record { slot = b .slot; empty = e; lo = b .lo; hi = b .hi; reached = r }
 
   -- it is filled: what is left falls
   pub falls : getD vec s 0 ≢ 0 → bitXor left (getD vec s 0) < left
   falls ne = omega (arith, step-lt productBits vec shape s left (b .slot) (b .hi) (b .lo) ne, b .lo)
+
+  -- and the slot is among those used, as the machine shifts its bit
+  pub takes : {v used : ℕ} → getD vec s 0 ≢ 0 → Reached vec v left used
+      → Reached vec v (bitXor left (getD vec s 0)) (bitXor used (1 * 2 ^ s % 2 ^ 64))
+  takes {v} {used} ne r =
+      let own : 1 * 2 ^ s % 2 ^ 64 ≡ 2 ^ s = shifted 64 s (omega (arith, b .slot)) in
+      rw own (reached-step vec productBits v left used s shape (b .slot) (b .lo) (b .hi) ne r)
 
 -- ---- a column goes in
 
@@ -61,26 +69,35 @@ below-set b l s y ly h i li = go (ℕ-discrete i s)
     go (yes e) = omega (arith, ap (λ (j : ℕ). getD (set l s y) j 0) e ∙ getD-set-same l s y 0 (rw (← e) inside))
     go (no ne) = omega (arith, getD-set-other l s i y 0 ne, h i inside)
 
-module _ {y v : ℕ} {vec mask member : List ℕ} (slots : Slots vec mask member) where
-  pub puts-none : {m : ℕ} → Reached vec mask v 0 m → Puts y v vec mask member vec mask member
-  puts-none {m} r =
-      record {
-        members = slots .members;
-        inserted = λ κ e ech. inserted-none productBits κ vec mask member y ech m (subst (λ (x : ℕ). Reached vec mask x 0 m) (sym e) r);
-      }
+-- the slots are such still
+pub opened-shape : {v : ℕ} {vec vec′ : List ℕ} → Shape productBits vec → OpensSlot v vec vec′ → Shape productBits vec′
+opened-shape {v} {vec} shape t = rw (t .vec-is) (filled-shape productBits vec v (t .s) (t .left) (t .used) shape (t .stopped))
 
-  -- the own bit of the slot as the machine shifts it
-  pub puts-slot : {s left m : ℕ} {member′ : List ℕ} → y < parities → Stopped productBits vec mask v s left m → member′ ≡ set member s y
-      → Puts y v vec mask member (set vec s left) (set mask s (bitXor m (1 * 2 ^ s % 2 ^ 64))) member′
-  puts-slot {s} {left} {m} l t put =
-      let own : 1 * 2 ^ s % 2 ^ 64 ≡ 2 ^ s = shifted 64 s (omega (arith, t .slot)) in
-      rw (put, own) (record {
-        members =
-            record {
-              long = length-set member s y ∙ slots .members .long;
-              below = below-set parities member s y l (slots .members .below);
-            };
-        inserted =
-            λ κ e ech. inserted-slot productBits κ vec mask member y ech s left m (slots .members .long)
-            (subst (λ (x : ℕ). Stopped productBits vec mask x s left m) (sym e) t);
-      })
+pub opened-slots : {y v : ℕ} {vec by member vec′ by′ member′ : List ℕ} → Slots vec by member → y < parities
+    → Opens y v vec by member vec′ by′ member′ → Slots vec′ by′ member′
+opened-slots {y} {v} {vec} {by} {member} slots l o =
+    let t = o .slot in
+    rw (o .by-is, o .member-is) (record {
+      shape = opened-shape (slots .shape) t;
+      by-long = length-set by (t .s) (t .used) ∙ slots .by-long;
+      members =
+          record {
+            long = length-set member (t .s) y ∙ slots .members .long;
+            below = below-set parities member (t .s) y l (slots .members .below);
+          };
+    })
+
+-- ---- from slots to members: the loop over the slots
+
+pub mask-start : (by : List ℕ) (used : ℕ) → used ≡ byMembers by used 0
+unfolding byMembers
+mask-start by used = refl
+
+module _ (by : List ℕ) (used m k : ℕ) (is : m ≡ byMembers by used k) where
+  pub mask-on : m / 2 ^ k % 2 ≡ 1 → bitXor m (getD by k 0) ≡ byMembers by used (k + 1)
+  unfolding bit
+  mask-on e = ap (λ (x : ℕ). bitXor x (getD by k 0)) is ∙ sym (by-on by used k (ap (λ (x : ℕ). bit x k) (sym is) ∙ e))
+
+  pub mask-off : m / 2 ^ k % 2 ≢ 1 → m ≡ byMembers by used (k + 1)
+  unfolding bit
+  mask-off ne = is ∙ sym (by-off by used k (ap (λ (x : ℕ). bit x k) (sym is) ∙ omega arith))

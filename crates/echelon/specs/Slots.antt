@@ -1,13 +1,16 @@
 -- What the functions of this crate promise of the slots.
-use mathlib.Core.List.{List, map}
+use mathlib.Core.Bool.{Bool, false, true}
+use mathlib.Core.List.{List}
 use mathlib.Core.Path.{_≡_}
 use Prim.Native.Nat.{_<_, _^_, _≤_, suc, ℕ}
-use lib.ListN.{length}
+use lib.ListN.{length, set}
 use Rattle.circuit.specs.Limits.{parities, productBits}
-use Rattle.gf2.specs.Echelon.{Echelon, Inserted, Reached, Shape, Stopped}
+use Rattle.gf2.specs.Echelon.{Reached, Shape, Stopped}
 use Rattle.gf2.specs.Over.{Below}
+use Rattle.echelon.specs.declared.Inserted.{Inserted}
+use Rattle.echelon.specs.declared.Inserted.the-variants as inserted
 use Rattle.echelon.specs.declared.Reduced.{Reduced}
-use Rattle.echelon.specs.declared.Reduced.the-variants.{Dependent, Independent}
+use Rattle.echelon.specs.declared.Reduced.the-variants as reduced
 
 -- the leading bit of x is bit s, and s is a slot
 pub record LeadingBit (x s : ℕ) : Type 0 where
@@ -16,24 +19,46 @@ pub record LeadingBit (x s : ℕ) : Type 0 where
   pub hi : x < 2 ^ suc s
 
 -- Dependent: v came down to 0. Independent: it was stopped at an empty slot, with so much left
-abbrev pub Reduces : List ℕ → List ℕ → ℕ → Reduced → Type 0
-Reduces vec mask v (Dependent m) = Reached vec mask v 0 m
-Reduces vec mask v (Independent s left m) = Stopped productBits vec mask v s left m
+abbrev pub Reduces : List ℕ → ℕ → Reduced → Type 0
+Reduces vec v (reduced.Dependent used) = Reached vec v 0 used
+Reduces vec v (reduced.Independent s left used) = Stopped productBits vec v s left used
 
--- the members beside the slots: parities, and 0 where a slot is empty. A lent array has the length of its type, which the borrow checker
--- does not tell
+-- the members beside the slots: parities. A lent array has the length of its type, which the borrow checker does not tell
 pub record SlotMembers (member : List ℕ) : Type 0 where
   pub long : length member ≡ productBits
   pub below : Below parities member
 
--- productBits slots
-pub record Slots (vec mask member : List ℕ) : Type 0 where
+-- productBits slots, and beside each a mask of slots and a member
+pub record Slots (vec by member : List ℕ) : Type 0 where
   pub shape : Shape productBits vec
-  pub masks-long : length mask ≡ productBits
+  pub by-long : length by ≡ productBits
   pub members : SlotMembers member
 
--- the column v of y went in: the members are parities still, and whatever the columns κ are, that of y is in
-pub record Puts (y v : ℕ) (vec mask member vec′ mask′ member′ : List ℕ) : Type 0 where
-  pub members : SlotMembers member′
-  pub inserted : (κ : ℕ → ℕ) → κ y ≡ v → Echelon productBits vec mask (map κ member)
-      → Inserted productBits κ y vec mask member vec′ mask′ member′
+-- the column v was stopped at an empty slot, which it opens
+pub record OpensSlot (v : ℕ) (vec vec′ : List ℕ) : Type 0 where
+  pub s : ℕ
+  pub left : ℕ
+  pub used : ℕ
+  pub stopped : Stopped productBits vec v s left used
+  pub vec-is : vec′ ≡ set vec s left
+
+-- and is known there as that of y
+pub record Opens (y v : ℕ) (vec by member vec′ by′ member′ : List ℕ) : Type 0 where
+  pub slot : OpensSlot v vec vec′
+  pub by-is : by′ ≡ set by (slot .s) (slot .used)
+  pub member-is : member′ ≡ set member (slot .s) y
+
+-- `grow`: true where v opened a slot; else v came down to 0, and nothing changed
+abbrev pub Grows : ℕ → List ℕ → List ℕ → Bool → Type 0
+Grows v vec vec′ true = OpensSlot v vec vec′
+Grows v vec vec′ false = (vec′ ≡ vec) × ((used : ℕ) × Reached vec v 0 used)
+
+-- nothing changed
+pub record Same (vec by member vec′ by′ member′ : List ℕ) : Type 0 where
+  pub vec-is : vec′ ≡ vec
+  pub by-is : by′ ≡ by
+  pub member-is : member′ ≡ member
+
+abbrev pub Inserts : ℕ → ℕ → List ℕ → List ℕ → List ℕ → List ℕ → List ℕ → List ℕ → Inserted → Type 0
+Inserts y v vec by member vec′ by′ member′ (inserted.Dependent used) = Reached vec v 0 used × Same vec by member vec′ by′ member′
+Inserts y v vec by member vec′ by′ member′ inserted.Opened = Opens y v vec by member vec′ by′ member′

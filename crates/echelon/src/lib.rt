@@ -1,42 +1,52 @@
 // An xor basis ("echelon") of PRODUCT_BITS slots, in which the finder eliminates columns. Slot s holds 0, or a number whose
-// leading bit is s; beside it stand a mask of slots and the parity whose column opened it. Internal: no entry for users.
+// leading bit is s; beside it stand the parity whose column opened it, and the slots that were taken off that column before. Those beside
+// an empty slot mean nothing, so it is enough to empty the slots. Internal: no entry for users.
 ghost use mathlib.Core.Logic.{_≢_};
+ghost use mathlib.Core.Path.{_≡_};
 ghost use Prim.Native.Nat.{_<_, _^_};
+ghost use lib.ListN.{length};
 ghost use Rattle.circuit.specs.Limits.{parities, productBits};
-ghost use Rattle.gf2.specs.Echelon.{Shape};
-ghost use Rattle.echelon.specs.Slots.{LeadingBit, Puts, Reduces, Slots};
+ghost use Rattle.gf2.specs.Echelon.{Shape, byMembers};
+ghost use Rattle.echelon.specs.Slots.{Grows, Inserts, LeadingBit, Reduces, Slots};
 use circuit::cells::put_cell;
 use circuit::limits::PRODUCT_BITS;
 use circuit::limits::Parity;
 
 pub enum Reduced {
-    // The columns of the slots in the mask xor to the number.
-    Dependent { mask: u64 },
+    // The slots in the mask xor to the number.
+    Dependent { used: u64 },
     // No combination of the slots. What is left of it has its leading bit at the slot, which is empty.
-    Independent { slot: usize, left: u64, mask: u64 },
+    Independent { slot: usize, left: u64, used: u64 },
+}
+
+pub enum Inserted {
+    // The slots in the mask xor to the column, and nothing changed.
+    Dependent { used: u64 },
+    // The column has opened a slot.
+    Opened,
 }
 
 // Takes slots off v, each time the one at its leading bit.
-pub fn reduce(vec: &[u64; PRODUCT_BITS], mask: &[u64; PRODUCT_BITS], v: u64) -> Reduced
+pub fn reduce(vec: &[u64; PRODUCT_BITS], v: u64) -> Reduced
     requires { ⌜ Shape productBits (now vec) ⌝ }
     requires { ⌜ v < 2 ^ productBits ⌝ }
-    ensures { λ r. ⌜ Reduces (now (vec .entry)) (now (mask .entry)) v r ⌝ }
+    ensures { λ r. ⌜ Reduces (now (vec .entry)) v r ⌝ }
 {
     let mut left = v;
-    let mut m: u64 = 0;
+    let mut used: u64 = 0;
     while left != 0 {
         let s = leading(left);
         if vec[s] == 0 {
             return Reduced::Independent {
                 slot: s,
                 left: left,
-                mask: m,
+                used: used,
             };
         }
         left = left ^ vec[s];
-        m = m ^ mask[s];
+        used = used ^ (1 << s);
     }
-    Reduced::Dependent { mask: m }
+    Reduced::Dependent { used: used }
 }
 
 // The slot of its leading bit.
@@ -47,29 +57,64 @@ fn leading(x: u64) -> usize
     63 - u64::leading_zeros(x) as usize
 }
 
-// The column v of y goes in: it opens a slot, or it is a combination already.
+// The column v of y goes in, unless it is a combination already.
 pub fn insert(
     y: Parity,
     v: u64,
     vec: &mut [u64; PRODUCT_BITS],
-    mask: &mut [u64; PRODUCT_BITS],
+    by: &mut [u64; PRODUCT_BITS],
     member: &mut [Parity; PRODUCT_BITS],
-)
-    requires { ⌜ Slots (now vec) (now mask) (now member) ⌝ }
+) -> Inserted
+    requires { ⌜ Slots (now vec) (now by) (now member) ⌝ }
     requires { ⌜ (y < parities) × (v < 2 ^ productBits) ⌝ }
-    ensures { λ _. ⌜ Puts y v (now (vec .entry)) (now (mask .entry)) (now (member .entry))
-        (now (vec .exit)) (now (mask .exit)) (now (member .exit)) ⌝ }
+    ensures { λ r. ⌜ Inserts y v (now (vec .entry)) (now (by .entry)) (now (member .entry))
+        (now (vec .exit)) (now (by .exit)) (now (member .exit)) r ⌝ }
 {
-    match reduce(vec, mask, v) {
-        Reduced::Dependent { mask: _ } => {}
+    match reduce(vec, v) {
+        Reduced::Dependent { used } => Inserted::Dependent { used: used },
+        Reduced::Independent { slot, left, used } => {
+            vec[slot] = left;
+            by[slot] = used;
+            put_cell(member, slot, y);
+            Inserted::Opened
+        }
+    }
+}
+
+// The column v goes in, unless it is a combination already: true where it opens a slot. Nothing is kept beside the slots: for the question
+// whether there is a dependency at all.
+pub fn grow(v: u64, vec: &mut [u64; PRODUCT_BITS]) -> bool
+    requires { ⌜ Shape productBits (now vec) ⌝ }
+    requires { ⌜ v < 2 ^ productBits ⌝ }
+    ensures { λ r. ⌜ Grows v (now (vec .entry)) (now (vec .exit)) r ⌝ }
+{
+    match reduce(vec, v) {
+        Reduced::Dependent { used: _ } => false,
         Reduced::Independent {
             slot,
             left,
-            mask: m,
+            used: _,
         } => {
             vec[slot] = left;
-            mask[slot] = m ^ (1 << slot);
-            put_cell(member, slot, y);
+            true
         }
     }
+}
+
+// From a mask of slots to one of members: a slot stands for the member that opened it and for the slots taken off that one's column, which
+// lie above.
+pub fn by_members(used: u64, by: &[u64; PRODUCT_BITS]) -> u64
+    requires { ⌜ length (now by) ≡ productBits ⌝ }
+    ensures { λ r. ⌜ r ≡ byMembers (now (by .entry)) used productBits ⌝ }
+{
+    let mut m = used;
+    let mut s: usize = 0;
+    while s < PRODUCT_BITS {
+        let k = s;
+        s += 1;
+        if (m >> k) % 2 == 1 {
+            m = m ^ by[k];
+        }
+    }
+    m
 }

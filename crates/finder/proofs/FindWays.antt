@@ -7,12 +7,9 @@ use lib.ListN.{length}
 use Rattle.circuit.proofs.Judging.{lent-pass}
 use Rattle.circuit.proofs.TableRule.{call-done, call-refusal, marks-passes}
 use Rattle.circuit.specs.Faults.{lentFault}
-use Rattle.circuit.specs.Limits.{maxMembers, maxWires, moveCells, parities}
-use Rattle.circuit.specs.Sound.{SoundMarks}
+use Rattle.circuit.specs.Limits.{moveCells}
 use Rattle.circuit.specs.TableFaults.{Marked}
-use Rattle.moves.proofs.Wires.{cells-wires}
 use Rattle.moves.specs.declared.Sought.the-variants.{Found as Got, Nothing as None}
-use Rattle.finder.proofs.OnWires.{searchable, searched-none}
 use Rattle.finder.specs.Entry.{CellsLeft, FindMove, findFault}
 use Rattle.finder.specs.Search.{Searched}
 use Rattle.finder.specs.declared.Finding.the-variants.{Found, Nothing, Refused}
@@ -30,19 +27,11 @@ module _ (n : ℕ) (marks cells : List ℕ) (f : ℕ) (judged : f ≡ findFault 
     passed : Marked n marks × (lentFault (length cells) moveCells ≡ 0)
     passed = marks-passes n (lentFault (length cells) moveCells) marks .0 (sym judged ∙ clear)
 
-    pub may-search : SoundMarks parities maxWires marks × (length cells ≡ moveCells)
-    may-search = (searchable n (passed .0 .few) marks (passed .0 .sound), lent-pass (length cells) moveCells (passed .1))
+    pub may-search : Marked n marks × (length cells ≡ moveCells)
+    may-search = (passed .0, lent-pass (length cells) moveCells (passed .1))
 
-    pub find-found : (cells′ : List ℕ) → Searched marks cells cells′ Got → FindMove n marks cells cells′ Found
-    find-found cells′ s =
-        record {
-          reply = call-done f (findFault n marks (length cells)) judged clear;
-          cells-left = cells-wires parities n maxWires maxMembers marks (passed .0 .few) (passed .0 .sound) cells′ .1 s;
-        }
+    pub find-found : (cells′ : List ℕ) → Searched n marks cells cells′ Got → FindMove n marks cells cells′ Found
+    find-found cells′ s = record { reply = call-done f (findFault n marks (length cells)) judged clear; cells-left = s }
 
-    pub find-nothing : (cells′ : List ℕ) → Searched marks cells cells′ None → FindMove n marks cells cells′ Nothing
-    find-nothing cells′ s =
-        record {
-          reply = call-done f (findFault n marks (length cells)) judged clear;
-          cells-left = (s .0, searched-none n (passed .0 .few) marks (passed .0 .sound) (s .1));
-        }
+    pub find-nothing : (cells′ : List ℕ) → Searched n marks cells cells′ None → FindMove n marks cells cells′ Nothing
+    find-nothing cells′ s = record { reply = call-done f (findFault n marks (length cells)) judged clear; cells-left = s }

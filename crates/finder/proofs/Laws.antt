@@ -13,6 +13,7 @@ use Rattle.circuit.specs.Replies.{numberOf, placeOf}
 use Rattle.circuit.specs.Sound.{SoundMarks}
 use Rattle.circuit.specs.declared.Reply.the-variants.{Done}
 use Rattle.moves.proofs.Laws.{limits-suffice, none-legal-bound}
+use Rattle.moves.specs.Log.{SmallestCells}
 use Rattle.moves.specs.Move.{Movable, NoneLegal}
 use Rattle.finder.specs.Entry.{CellsLeft, FindMove, findFault, foundOf, told}
 use Rattle.finder.specs.declared.Finding.{Finding}
@@ -44,7 +45,7 @@ module _ (n : ℕ) (marks cells cells′ : List ℕ) where
   answer-found (Refused number place) d a m = absurd (refused-not-done number place d)
 
   answer-none : (r : Finding) → told r ≡ Done → Left r → NoneLegal maxMembers n marks → r ≡ Nothing
-  answer-none Found d a none = absurd (none (a .z) (a .Y) (a .legal))
+  answer-none Found d a none = absurd (none (a .legal .z) (a .legal .Y) (a .legal .legal))
   answer-none Nothing d a none = refl
   answer-none (Refused number place) d a none = absurd (refused-not-done number place d)
 
@@ -70,12 +71,16 @@ module _ (n : ℕ) (marks cells cells′ : List ℕ) where
       -- a move is found exactly where there is one, and none exactly where there is none
       pub found-exactly : (r ≡ Found) ↔ Movable maxMembers n marks
       found-exactly = (
-        λ e. let a = subst Left e (h .cells-left) in record { z = a .z; Y = a .Y; legal = a .legal },
+        λ e. let a = subst Left e (h .cells-left) in record { z = a .legal .z; Y = a .legal .Y; legal = a .legal .legal },
         answer-found r done (h .cells-left),
       )
 
       pub none-exactly : (r ≡ Nothing) ↔ NoneLegal maxMembers n marks
       none-exactly = (λ e. let a = subst Left e (h .cells-left) in a .1, answer-none r done (h .cells-left))
+
+      -- a move that is found has the smallest z of all legal moves, so another finder that keeps this promise finds the same z
+      pub found-smallest : r ≡ Found → SmallestCells maxMembers n marks cells′
+      found-smallest e = subst Left e (h .cells-left)
 
       -- where none is found, the odd set has at most (n² + n)/2 + 1 members
       pub none-few : r ≡ Nothing → memberCount marks ≤ (n * n + n) / 2 + 1

@@ -1,6 +1,8 @@
 pub mod Listing
-pub mod Scanned
-pub mod FirstMembers
+pub mod SetsNamed
+pub mod Turns
+pub mod Apart
+pub mod Asking
 pub mod OnWires
 pub mod FindWays
 pub mod Laws

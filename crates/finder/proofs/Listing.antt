@@ -1,21 +1,20 @@
--- The members of marks as a list, and back.
+-- The members of marks as a list.
 use mathlib.Core.List.{List, [], _++_, _∷_}
-use mathlib.Core.Path.{_∙_, _≡_, ap, refl, subst, sym}
-use Prim.Native.Nat.{_+_, _<_, _≤_, suc, zero, ℕ}
+use mathlib.Core.Path.{_∙_, _≡_, ap, refl, sym}
+use Prim.Native.Nat.{_+_, _-_, _<_, _^_, _≤_, suc, zero, ℕ}
 use native.Mathlib.Nat.{add-zero, le-refl}
 use native.Mathlib.Numerals.{add-one}
 use native.Mathlib.Omega.{arith}
-use lib.ListN.{getD, length, length-set, set, take}
-use lib.Seq.{ext-getD, length-take-le, take-set-le, take-suc-set}
+use lib.ListN.{drop, length, length-set, length-take, set, take}
+use lib.Seq.{take-set-le, take-suc-set}
 use Rattle.circuit.specs.Limits.{maxWires, parities}
 use Rattle.circuit.specs.Sound.{SoundMarks, weight}
-use Rattle.gf2.proofs.Table.{getD-tabulate, length-tabulate}
-use Rattle.kernel.specs.Members.{Members, marksOf}
-use Rattle.moves.specs.declared.Sought.{Sought}
 use Rattle.moves.proofs.Keep.{member-lt}
-use Rattle.moves.proofs.Sets.{listed-ascending, listed-in, listed-occ, listed-off, listed-on, occ}
+use Rattle.moves.proofs.Sets.{in-listed, listed-in, listed-off, listed-on}
+use Rattle.moves.proofs.Wires.{sound-wires}
 use Rattle.moves.specs.Sets.{listed}
-use Rattle.finder.specs.Search.{Gathered, Searched}
+use Rattle.finder.specs.OneZ.{Members}
+use Rattle.finder.specs.Search.{Gathered}
 
 -- ---- the loop over the marks
 
@@ -48,39 +47,17 @@ gather-next {marks} {list} {count} {p} g l b put =
       are = next marks list count p (weight marks p) (g .are) (omega (arith, g .fits, g .long)) refl b;
     })
 
--- ---- the marks of the listed members are the marks
+-- ---- what was gathered, as the code takes that part of the list
 
-module _ (marks : List ℕ) (sound : SoundMarks parities maxWires marks) where
-  pub marks-back : marksOf (listed parities (weight marks)) ≡ marks
-  unfolding marksOf
-  marks-back =
-      ext-getD 0 (marksOf (listed parities (weight marks))) marks (long ∙ sym (sound .long))
-      (λ p l. getD-tabulate parities (λ q. occ q (listed parities (weight marks))) p (rw long at l)
-      ∙ listed-occ (weight marks) (sound .bits) parities p (rw long at l))
-    where
-      long : length (marksOf (listed parities (weight marks))) ≡ parities
-      long = length-tabulate parities (λ q. occ q (listed parities (weight marks)))
-
-  pub listed-members : Members (listed parities (weight marks))
-  listed-members =
-      record {
-        ordered = listed-ascending parities (weight marks);
-        below =
-            λ i l. member-lt parities maxWires marks sound (getD (listed parities (weight marks)) i 0)
-            (listed-in (weight marks) (sound .bits) parities (getD (listed parities (weight marks)) i 0) (i, l, refl));
-        sound = subst (SoundMarks parities maxWires) (sym marks-back) sound;
-      }
-
--- ---- what was gathered
-
-module _ {marks list : List ℕ} {count : ℕ} (sound : SoundMarks parities maxWires marks) (g : Gathered marks list count) where
-  pub gathered-length : length (take count list) ≡ count
-  gathered-length = length-take-le count list (omega (arith, g .fits, g .long))
-
-  pub gathered-members : Members (take count list)
-  gathered-members = subst Members (sym (g .are)) (listed-members marks sound)
-
-  -- what was found of the list is found of the marks
-  pub gathered-search : (cells cells′ : List ℕ) (r : Sought) → Searched (marksOf (take count list)) cells cells′ r
-      → Searched marks cells cells′ r
-  gathered-search cells cells′ r = subst (λ (m : List ℕ). Searched m cells cells′ r) (ap marksOf (g .are) ∙ marks-back marks sound)
+module _ {n : ℕ} {marks list : List ℕ} {count : ℕ} (fit : n ≤ maxWires) (sound : SoundMarks parities n marks)
+    (g : Gathered (2 ^ n) marks list count) where
+  -- it is the list of the members
+  pub gathered-members : {ys : List ℕ} → ys ≡ take (count - 0) (drop 0 list) → Members marks ys
+  gathered-members e =
+      let z : count - 0 ≡ count = omega arith in
+      rw (e, z, g .are) (record {
+        sound = sound-wires parities n maxWires marks fit sound;
+        few = rw (← (g .are)) (omega (arith, g .fits, length-take count list));
+        member = listed-in (weight marks) (sound .bits) (2 ^ n);
+        listed = λ y m. in-listed (weight marks) (sound .bits) (2 ^ n) y (member-lt parities n marks sound y m) m;
+      })

@@ -9,7 +9,7 @@ use Rattle.circuit.specs.Replies.{numberOf}
 use Rattle.circuit.specs.TableFaults.{callFault, marksFault}
 use Rattle.circuit.specs.declared.Reply.{Reply}
 use Rattle.circuit.specs.declared.Reply.the-variants as reply
-use Rattle.moves.specs.Log.{LegalCells}
+use Rattle.moves.specs.Log.{SmallestCells}
 use Rattle.moves.specs.Move.{NoneLegal}
 use Rattle.finder.specs.declared.Finding.{Finding}
 use Rattle.finder.specs.declared.Finding.the-variants.{Found, Nothing, Refused}
@@ -34,10 +34,10 @@ findFault n marks cells = callFault n (lentFault cells moveCells) (marksFault n 
 
 -- ---- the cells lent
 
--- after a reply of that number, which found a move or not: those of a legal move; or as they were, and then no z and Y at all make a
--- legal move; or, after a fault, as they were
+-- after a reply of that number, which found a move or not: those of a legal move, and no legal move has a smaller z; or as they were, and
+-- then no z and Y at all make a legal move; or, after a fault, as they were
 abbrev pub CellsLeft : (number found : ℕ) → ℕ → List ℕ → List ℕ → List ℕ → Type 0
-CellsLeft zero (suc found) n marks cells cells′ = LegalCells maxMembers n marks cells′
+CellsLeft zero (suc found) n marks cells cells′ = SmallestCells maxMembers n marks cells′
 CellsLeft zero zero n marks cells cells′ = (cells′ ≡ cells) × NoneLegal maxMembers n marks
 CellsLeft (suc fault) found n marks cells cells′ = cells′ ≡ cells
 

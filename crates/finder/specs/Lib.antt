@@ -1,2 +1,5 @@
+pub mod Naming
+pub mod OneZ
+pub mod Halves
 pub mod Search
 pub mod Entry

@@ -1,29 +1,34 @@
--- What the finder's parts promise, for marks of up to maxWires wires.
+-- What the finder's parts promise.
 use mathlib.Core.List.{List}
-use mathlib.Core.Logic.{_⊎_}
 use mathlib.Core.Path.{_≡_}
-use Prim.Native.Nat.{_+_, _<_, _≤_, ℕ}
-use lib.ListN.{length, take}
+use Prim.Native.Nat.{_<_, _≤_, ℕ}
+use lib.ListN.{length, replicate, take}
 use Rattle.circuit.specs.Limits.{maxMembers, maxWires, parities, productBits}
 use Rattle.circuit.specs.Sound.{weight}
+use Rattle.gf2.specs.Echelon.{Shape}
+use Rattle.moves.specs.Log.{SmallestCells}
+use Rattle.moves.specs.Move.{NoneBelow, NoneLegal}
+use Rattle.moves.specs.Sets.{listed}
 use Rattle.moves.specs.declared.Sought.{Sought}
 use Rattle.moves.specs.declared.Sought.the-variants.{Found, Nothing}
-use Rattle.moves.specs.Log.{LegalCells}
-use Rattle.moves.specs.Move.{NoneLegal}
-use Rattle.moves.specs.Sets.{listed}
 
--- the first `count` of the list are the members, in ascending order
-pub record Gathered (marks list : List ℕ) (count : ℕ) : Type 0 where
+-- the first `count` of the list are the members below `size`, in ascending order
+pub record Gathered (size : ℕ) (marks list : List ℕ) (count : ℕ) : Type 0 where
   pub fits : count ≤ parities
   pub long : length list ≡ parities
-  pub are : take count list ≡ listed parities (weight marks)
+  pub are : take count list ≡ listed size (weight marks)
 
--- of so many members the first m are enough to search: they are all, or more than can be without a legal move
-pub record Enough (count m : ℕ) : Type 0 where
-  pub fits : m ≤ count
-  pub which : (m ≡ count) ⊎ (productBits + 1 < m)
+-- the slots, emptied if m columns are to be asked and m is not 0
+pub record Emptied (m : ℕ) (vec : List ℕ) : Type 0 where
+  pub shape : Shape productBits vec
+  pub empty : 0 < m → vec ≡ replicate productBits 0
 
--- a legal move is written, or there is none
-abbrev pub Searched : List ℕ → List ℕ → List ℕ → Sought → Type 0
-Searched marks cells cells′ Found = LegalCells maxMembers maxWires marks cells′
-Searched marks cells cells′ Nothing = (cells′ ≡ cells) × NoneLegal maxMembers maxWires marks
+-- on all wires: a legal move with the smallest z is written, or none is legal with a z below `size`
+abbrev pub Scanned : ℕ → List ℕ → List ℕ → List ℕ → Sought → Type 0
+Scanned size marks cells cells′ Found = SmallestCells maxMembers maxWires marks cells′
+Scanned size marks cells cells′ Nothing = (cells′ ≡ cells) × NoneBelow maxMembers maxWires marks size
+
+-- on n wires: a legal move with the smallest z is written, or none is legal
+abbrev pub Searched : ℕ → List ℕ → List ℕ → List ℕ → Sought → Type 0
+Searched n marks cells cells′ Found = SmallestCells maxMembers n marks cells′
+Searched n marks cells cells′ Nothing = (cells′ ≡ cells) × NoneLegal maxMembers n marks

@@ -1,34 +1,97 @@
-// The scan over pairs of columns. A column is known by its place in the list of members.
+// The scan over all z and their columns.
 ghost use mathlib.Core.Path.{_≡_};
+ghost use Prim.Native.Nat.{_<_, _^_, _≤_, suc};
 ghost use lib.ListN.{length};
-ghost use Rattle.circuit.specs.Limits.{moveCells};
+ghost use Rattle.circuit.specs.Limits.{maxMembers, maxWires, moveCells, productBits};
 ghost use Rattle.columns.specs.Table.{ProductTable};
-ghost use Rattle.kernel.specs.Members.{Members, marksOf};
-ghost use Rattle.finder.specs.Search.{Searched};
-use circuit::cells::cell_at;
+ghost use Rattle.gf2.specs.Echelon.{Shape};
+ghost use Rattle.moves.specs.Move.{NoneBelow};
+ghost use Rattle.finder.specs.OneZ.{Members};
+ghost use Rattle.finder.specs.Search.{Emptied, Scanned};
+use crate::halves::half_of;
+use crate::halves::to_ask;
+use crate::pairs::offer;
+use crate::pairs::turn;
+use circuit::limits::Mark;
 use circuit::limits::MoveCell;
 use circuit::limits::PARITIES;
+use circuit::limits::PRODUCT_BITS;
 use circuit::limits::Parity;
-use kernel::offer;
+use columns::column;
 use moves::Sought;
 
-// Looks at pairs of columns a < b, and leaves both loops at the first that serves. Internal: the caller has gathered the members.
-pub fn scan_pairs(products: &[u64; PARITIES], ys: &[Parity], cells: &mut [MoveCell]) -> Sought
+// Goes through z from 1 up, by their highest wire t. Internal: the caller has gathered the members ys of the marks.
+pub fn scan(
+    n: usize,
+    products: &[u64; PARITIES],
+    marks: &[Mark],
+    ys: &[Parity],
+    cells: &mut [MoveCell],
+) -> Sought
     requires { ⌜ ProductTable (now products) ⌝ }
-    requires { ⌜ Members (now ys) ⌝ }
+    requires { ⌜ Members (now marks) (now ys) × (1 ≤ n) × (n ≤ maxWires) ⌝ }
     requires { ⌜ length (now cells) ≡ moveCells ⌝ }
-    ensures { λ r. ⌜ Searched (marksOf (now (ys .entry))) (now (cells .entry)) (now (cells .exit)) r ⌝ }
+    ensures { λ r. ⌜ Scanned (2 ^ n) (now (marks .entry)) (now (cells .entry)) (now (cells .exit)) r ⌝ }
 {
-    let m = ys.len();
+    let most = n * (n - 1) / 2;
+    let mut t: usize = 0;
+    while t < n {
+        let got = scan_wire(most, products, marks, ys, t, cells);
+        t += 1;
+        if let Sought::Found = got {
+            return Sought::Found;
+        }
+    }
+    Sought::Nothing
+}
+
+// The z whose highest wire is t, ascending, and for each its columns: a in turn, with b = a ^ z. Both loops are left as soon as a column
+// offers a separating set, so that no z below it has a legal move. `most` columns may be apart.
+fn scan_wire(
+    most: usize,
+    products: &[u64; PARITIES],
+    marks: &[Mark],
+    ys: &[Parity],
+    t: usize,
+    cells: &mut [MoveCell],
+) -> Sought
+    requires { ⌜ ProductTable (now products) ⌝ }
+    requires { ⌜ Members (now marks) (now ys) × (t < maxWires) ⌝ }
+    requires { ⌜ NoneBelow maxMembers maxWires (now marks) (2 ^ t) ⌝ }
+    requires { ⌜ length (now cells) ≡ moveCells ⌝ }
+    ensures { λ r. ⌜ Scanned (2 ^ suc t) (now (marks .entry)) (now (cells .entry)) (now (cells .exit)) r ⌝ }
+{
+    let half = half_of(products, ys, t, most);
+    let mut vec = [0u64; PRODUCT_BITS];
+    let mut by = [0u64; PRODUCT_BITS];
+    let mut member = [0 as Parity; PRODUCT_BITS];
     let mut best = Sought::Nothing;
-    'pairs: for a in 0..m {
-        for b in a + 1..m {
-            let got = offer(products, ys, cell_at(ys, a), cell_at(ys, b), cells);
+    let low = 1usize << t;
+    'search: for k in low..low + low {
+        let z = k as Parity;
+        let m = to_ask(products, marks, ys, z, t, half);
+        empty(m, &mut vec);
+        for i in 0..m {
+            let a = turn(marks, ys, z, t, i);
+            let b = a ^ z;
+            let v = column(products, z, t, a);
+            let got = offer(marks, a, b, v, &mut vec, &mut by, &mut member, cells);
             if let Sought::Found = got {
                 best = got;
-                break 'pairs;
+                break 'search;
             }
         }
     }
     best
+}
+
+// Empties the slots, if there is a column to be asked.
+fn empty(m: usize, vec: &mut [u64; PRODUCT_BITS])
+    requires { ⌜ Shape productBits (now vec) ⌝ }
+    ensures { λ _. ⌜ Emptied m (now (vec .exit)) ⌝ }
+{
+    if m == 0 {
+        return;
+    }
+    *vec = [0u64; PRODUCT_BITS];
 }

@@ -74,6 +74,12 @@ xorAll-bit i (y ∷ ys) = rw (bit-xor y (xorAll ys) i) (omega (arith, xorAll-bit
 pub xorAll-map-bit : (v : ℕ → ℕ) (i : ℕ) (ys : List ℕ) → bit (xorAll (map v ys)) i ≡ sumOver (λ y. bit (v y) i) ys % 2
 xorAll-map-bit v i ys = xorAll-bit i (map v ys) ∙ ap (λ (x : ℕ). x % 2) (sumOver-map (λ y. bit y i) v ys)
 
+-- all of them 0
+pub xorAll-none : (v : ℕ → ℕ) (ys : List ℕ) → ((i : ℕ) → i < length ys → v (getD ys i 0) ≡ 0) → xorAll (map v ys) ≡ 0
+unfolding xorAll
+xorAll-none v [] h = refl
+xorAll-none v (y ∷ ys) h = rw (h 0 (suc-le-suc zero-le)) (xorAll-none v ys (λ i l. h (suc i) (suc-le-suc l)))
+
 -- if every sum over ys is, modulo 2, that over xs and one term more, then so is every xor
 pub xorAll-more : (v : ℕ → ℕ) (a : ℕ) (ys xs : List ℕ) → ((c : ℕ → ℕ) → sumOver c ys % 2 ≡ (c a + sumOver c xs) % 2)
     → xorAll (map v ys) ≡ bitXor (v a) (xorAll (map v xs))
@@ -97,3 +103,7 @@ pub below-map : (f : ℕ → ℕ) (b : ℕ) (ys : List ℕ) → ((y : ℕ) → f
 below-map f b [] h i l = absurd (omega arith)
 below-map f b (y ∷ ys) h zero l = h y
 below-map f b (y ∷ ys) h (suc i) l = below-map f b ys h i (omega arith)
+
+pub map-same : (ys : List ℕ) → map (λ y. y) ys ≡ ys
+map-same [] = refl
+map-same (y ∷ ys) = ap (λ (l : List ℕ). y ∷ l) (map-same ys)

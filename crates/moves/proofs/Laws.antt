@@ -1,39 +1,35 @@
 -- The laws of moves on one page, for every n: `size` is the number of marks, `most` the most that Y may have.
 -- The proofs are in the modules named.
 use mathlib.Core.List.{List, map}
-use mathlib.Core.Logic.{_↔_, _≢_}
+use mathlib.Core.Logic.{_↔_}
 use mathlib.Core.Path.{_≡_, refl}
 use Prim.Native.Nat.{_*_, _+_, _/_, _<_, _^_, _≤_, ℕ}
-use native.Mathlib.Nat.{le-refl}
 use native.Mathlib.Omega.{arith}
-use lib.Bits.{bitXor}
 use lib.Dec.{T}
-use lib.ListN.{length}
+use lib.ListN.{getD, length}
 use lib.Pow.{pow-mono}
 use Rattle.circuit.specs.Limits.{maxMembers, maxWires, parities, productBits}
-use Rattle.circuit.specs.OddSet.{Member, memberCount}
+use Rattle.circuit.specs.OddSet.{memberCount}
 use Rattle.circuit.specs.Sound.{SoundMarks}
-use Rattle.gf2.proofs.Leading.{lowest-set}
 use Rattle.gf2.specs.Bit.{bit}
-use Rattle.gf2.specs.Parity.{lowest}
-use Rattle.gf2.specs.Over.{Below, xorAll}
+use Rattle.gf2.specs.Over.{xorAll}
 use Rattle.phase.specs.Signature.{SameSignature}
 use Rattle.moves.proofs.Bound.{bound}
 use Rattle.moves.proofs.Deciding.{move-decided}
 use Rattle.moves.proofs.Keep.{keeps, sound-kept}
 use Rattle.moves.proofs.Logs.{cells-unique}
 use Rattle.moves.proofs.OneXor.{balanced-iff}
-use Rattle.moves.proofs.Pairs.{none-reached, offer-iff}
+use Rattle.moves.proofs.Pairs.{none-tagged}
 use Rattle.moves.proofs.Products.{product-bit, product-by-bits, product-lt, tri-mono, tri-square}
-use Rattle.moves.proofs.Replaying.{replays-held, replays-one-number, replays-shrinks, replays-signature}
+use Rattle.moves.proofs.Replaying.{replays-held, replays-one-number, replays-shrinks, replays-signature, smallest-one-z}
 use Rattle.moves.proofs.Shrink.{shrinks}
 use Rattle.moves.proofs.Wires.{legal-wires}
 use Rattle.moves.specs.CarryOut.{carryOut}
 use Rattle.moves.specs.Decide.{isMove}
-use Rattle.moves.specs.Kappa.{kappa}
-use Rattle.moves.specs.Log.{LegalCells, asCells, logged}
+use Rattle.moves.specs.Column.{column}
+use Rattle.moves.specs.Log.{LegalCells, SmallestCells, asCells, logged, zOf}
 use Rattle.moves.specs.Move.{Balanced, Legal, NoneLegal}
-use Rattle.moves.specs.Pair.{Offer, Reach}
+use Rattle.moves.specs.Pair.{Stands, pairTag}
 use Rattle.moves.specs.Product.{product, tri}
 use Rattle.moves.specs.Replay.{Replays}
 
@@ -73,22 +69,19 @@ module _ (size n most : ℕ) (room : 2 ^ n ≤ size) (marks : List ℕ) (sound :
   pub same-on-more-wires : (N z : ℕ) (Y : List ℕ) → n ≤ N → Legal most n marks z Y ↔ Legal most N marks z Y
   same-on-more-wires N z Y h = legal-wires size n N most marks h sound z Y
 
-  -- ---- the finder
+  -- ---- the finder, for one z with a wire t
 
-  -- members a and b that differ on wire t: a legal move with a in Y and b not in Y,
-  -- exactly where the column of a is the xor of columns of others
-  pub pair-exact : (a b t : ℕ) → Member marks a → Member marks b → t < n → bit (bitXor a b) t ≡ 1
-      → Offer most n marks a b ↔ Reach most n t marks a b
-  pair-exact a b t ma mb l h = offer-iff size n most room marks sound a b t ma mb l h
+  -- where columns that xor to 0 have tags that do, no move with this z is legal
+  pub z-none : (z t : ℕ) → t < n → bit z t ≡ 1
+      → ((W : List ℕ) → ((i : ℕ) → i < length W → Stands marks z t (getD W i 0)) → xorAll (map (column n z t) W) ≡ 0
+      → xorAll (map (pairTag marks z) W) ≡ 0)
+      → (Y : List ℕ) → Legal most n marks z Y → ⊥
+  z-none z t l h closed Y legal = none-tagged size n most room marks sound z t l h Y legal closed
 
-  -- no pair reaches: no z and Y make a legal move
-  pub none-exact : ((a b : ℕ) → Member marks a → Member marks b → a ≢ b → Reach most n (lowest n (bitXor a b)) marks a b → ⊥)
-      → NoneLegal most n marks
-  none-exact = none-reached size n most room marks sound (lowest n) (λ z ne l. lowest-set n n z (le-refl _) ne l)
-
--- the xor of Y is 0 and every triple condition holds, exactly where one xor is 0
-pub one-xor : (n z t : ℕ) → t < n → bit z t ≡ 1 → (Y : List ℕ) → Below (2 ^ n) Y → Balanced n z Y ↔ (xorAll (map (kappa n z t) Y) ≡ 0)
-one-xor = balanced-iff
+-- the xor of Y is 0 and every triple condition holds, exactly where two xors are 0
+pub two-xors : (n z t : ℕ) → t < n → bit z t ≡ 1 → (Y : List ℕ)
+    → Balanced n z Y ↔ ((xorAll Y ≡ 0) × (xorAll (map (column n z t) Y) ≡ 0))
+two-xors = balanced-iff
 
 -- ---- moves as cells, and logs of them
 
@@ -99,6 +92,11 @@ legality-decided = move-decided
 -- cells say one move
 pub one-move : (most z z′ : ℕ) (Y Y′ : List ℕ) → asCells most z Y ≡ asCells most z′ Y′ → (z ≡ z′) × (Y ≡ Y′)
 one-move = cells-unique
+
+-- equal marks, equal z: of two moves with the smallest z for the same marks
+pub equal-z : (most n : ℕ) (marks cells cells′ : List ℕ) → SmallestCells most n marks cells → SmallestCells most n marks cells′
+    → zOf cells ≡ zOf cells′
+equal-z = smallest-one-z
 
 -- carrying out logged moves keeps the signature, and every one takes a member at least
 pub replay-keeps-signature : (size n most : ℕ) → 2 ^ n ≤ size → (m : List ℕ) (moves : List (List ℕ)) (m′ : List ℕ) → SoundMarks size n m

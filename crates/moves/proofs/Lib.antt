@@ -7,6 +7,7 @@ pub mod Shrink
 pub mod Products
 pub mod Bound
 pub mod OneXor
+pub mod Bars
 pub mod Pairs
 pub mod Naming
 pub mod Finding
@@ -14,4 +15,5 @@ pub mod Wires
 pub mod Logs
 pub mod Replaying
 pub mod Deciding
+pub mod Answers
 pub mod Laws

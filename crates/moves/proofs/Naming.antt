@@ -35,7 +35,7 @@ unfolding weightedSum
 marks-sum size w e two c = listed-sum (λ p. getD w p 0) two size c ∙ ap (λ (k : ℕ). sum k (λ p. getD w p 0 * c p)) (sym e)
 
 -- flipping the mark of q xors v q into the xor over the set
-flipped-xor : (size : ℕ) (v : ℕ → ℕ) (w : List ℕ) (q : ℕ) → length w ≡ size → ((p : ℕ) → getD w p 0 < 2) → q < size
+pub flipped-xor : (size : ℕ) (v : ℕ → ℕ) (w : List ℕ) (q : ℕ) → length w ≡ size → ((p : ℕ) → getD w p 0 < 2) → q < size
     → xorAll (map v (listed size (λ p. getD (flip w q) p 0))) ≡ bitXor (v q) (xorAll (map v (listed size (λ p. getD w p 0))))
 flipped-xor size v w q e two l =
     xorAll-more v q (listed size (λ p. getD (flip w q) p 0)) (listed size (λ p. getD w p 0))
@@ -45,6 +45,17 @@ flipped-xor size v w q e two l =
   where
     turn : (x y : ℕ) → x + 1 * y ≡ y + x
     turn x y = omega arith
+
+-- flipping a mark that stands takes one away
+pub flipped-off : (w : List ℕ) (q : ℕ) → q < length w → getD w q 0 ≡ 1
+    → sum (length w) (λ p. getD (flip w q) p 0) + 1 ≡ sum (length w) (λ p. getD w p 0)
+flipped-off w q l e =
+    omega (
+      arith,
+      sum-update (length w) q (λ p. getD w p 0) (λ p. getD (flip w q) p 0) l
+          (λ p k ne. sym (getD-set-other w q p ((getD w q 0 + 1) % 2) 0 ne)),
+      getD-set-same w q ((getD w q 0 + 1) % 2) 0 l,
+    )
 
 -- flipping marks one more at most
 pub flipped-few : (w : List ℕ) (q : ℕ) → q < length w → sum (length w) (λ p. getD (flip w q) p 0) ≤ sum (length w) (λ p. getD w p 0) + 1

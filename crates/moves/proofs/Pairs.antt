@@ -1,220 +1,325 @@
--- For members a and b and z = a xor b: a legal move with a in Y and b not in Y,
--- exactly where the column of a is the xor of the columns of some members other than a and b.
+-- For one z: a set whose columns xor to 0, and which has one of a pair, gives a legal move with this z; and where columns that xor to 0 have
+-- tags that do, no move with this z is legal.
 use mathlib.Core.List.{List, map}
-use mathlib.Core.Logic.{_↔_, _≢_}
-use mathlib.Core.Path.{_∙_, _≡_, ap, refl, subst, sym}
-use Prim.Native.Nat.{_%_, _+_, _-_, _<_, _^_, _≤_, ℕ}
-use native.Mathlib.Decide.{decLt, ℕ-discrete}
+use mathlib.Core.Logic.{_≢_, _⊎_, inl, inr}
+use mathlib.Core.Path.{_∙_, _≡_, ap, refl, sym}
+use Prim.Native.Nat.{_%_, _*_, _+_, _-_, _<_, _^_, _≤_, suc, zero, ℕ}
+use native.Mathlib.Decide.{ℕ-discrete}
+use native.Mathlib.Nat.{mul-comm, mul-zero}
 use native.Mathlib.Omega.{arith}
-use lib.Bits.{bitXor, xor-lt, xor-self}
-use lib.ListN.{getD}
+use lib.Bits.{bitXor, xor-self, xor-zero-l}
+use lib.ListN.{getD, length}
 use Rattle.circuit.specs.OddSet.{Member}
-use Rattle.circuit.specs.Sound.{SoundMarks}
-use Rattle.gf2.proofs.Bit.{bit-of-zero}
-use Rattle.gf2.proofs.Over.{length-sumOver, xorAll-more}
-use Rattle.gf2.proofs.Pairing.{xor-equal}
-use Rattle.gf2.proofs.Sum.{delta-other, delta-same}
+use Rattle.circuit.specs.Sound.{SoundMarks, weight}
+use Rattle.gf2.proofs.Bit.{bit-eq, bit-lt, bit-of-zero, bit-pow-other, bit-pow-same, bit-scale, bit-values, bit-xor, mul-lt}
+use Rattle.gf2.proofs.Over.{xorAll-map-bit}
+use Rattle.gf2.proofs.Sum.{sum-add, sum-ext, sum-mod, sum-single, sum-xor}
+use Rattle.gf2.proofs.Xor.{xor-assoc, xor-cancel}
 use Rattle.gf2.specs.Bit.{bit}
-use Rattle.gf2.specs.Over.{Below, sumOver, xorAll}
-use Rattle.gf2.specs.Sum.{delta, sum}
-use Rattle.moves.proofs.Keep.{member-lt, y-lt}
+use Rattle.gf2.specs.Over.{sumOver, xorAll}
+use Rattle.gf2.specs.Sum.{sum}
+use Rattle.moves.proofs.Bars.{column-partner}
+use Rattle.moves.proofs.Keep.{a-member, member-lt, y-lt, z-lt}
 use Rattle.moves.proofs.OneXor.{balanced-iff}
-use Rattle.moves.proofs.Sets.{in-listed, in-occ, listed-ascending, listed-in, listed-length, listed-more, listed-occ, listed-sum}
+use Rattle.moves.proofs.Sets.{in-listed, in-occ, listed-ascending, listed-in, listed-length, listed-occ, listed-sum}
 use Rattle.moves.proofs.Sets.{occ, occ-in, occ-once, occ-out, out-occ, rising, sumOver-occ}
-use Rattle.moves.specs.Kappa.{kappa}
-use Rattle.moves.specs.Move.{Legal, NoneLegal, Separates}
-use Rattle.moves.specs.Pair.{Offer, Other, Reach}
-use Rattle.moves.specs.Sets.{Ascending, In, listed}
+use Rattle.moves.specs.Column.{column}
+use Rattle.moves.specs.Move.{Legal, Separates}
+use Rattle.moves.specs.Pair.{Stands, pairTag}
+use Rattle.moves.specs.Sets.{In, listed}
 
--- a set as marks
-pub occ-marks : (Y : List ℕ) → Ascending Y → (p : ℕ) → occ p Y < 2
-occ-marks Y h p = omega (arith, occ-once 0 p Y (rising Y h))
+-- the partner of the partner
+pub partner-back : (x z : ℕ) → bitXor x (bitXor x z) ≡ z
+partner-back x z = sym (xor-assoc x x z) ∙ ap (λ (y : ℕ). bitXor y z) (xor-self x) ∙ xor-zero-l z
 
-module _ (size n most : ℕ) (room : 2 ^ n ≤ size) (marks : List ℕ) (sound : SoundMarks size n marks) (a b t : ℕ)
-    (ma : Member marks a) (mb : Member marks b) (t-lt : t < n) (z-t : bit (bitXor a b) t ≡ 1) where
-  abbrev κ : ℕ → ℕ
-  κ = kappa n (bitXor a b) t
+-- ---- a set of members, given by marks, whose xor is 0 and whose columns xor to 0
 
-  apart : a ≢ b
-  apart e = let q : bit (bitXor a b) t ≡ 0 = rw (e, xor-self b) (bit-of-zero t) in omega arith
+module _ (size n most : ℕ) (room : 2 ^ n ≤ size) (marks : List ℕ) (sound : SoundMarks size n marks) (z t : ℕ)
+    (t-lt : t < n) (z-t : bit z t ≡ 1) (g : ℕ → ℕ) (two : (p : ℕ) → g p < 2) (only-members : (p : ℕ) → g p ≡ 1 → Member marks p)
+    (x : ℕ) (on : g x ≡ 1) (off : g (bitXor x z) ≡ 0) (partner : Member marks (bitXor x z)) where
+  member : (y : ℕ) → In y (listed size g) → Member marks y
+  member y i = only-members y (listed-in g two size y i)
 
-  a-lt : a < size
-  a-lt = omega (arith, member-lt size n marks sound a ma)
+  fits : (p : ℕ) → Member marks p → p < size
+  fits p m = omega (arith, member-lt size n marks sound p m)
 
-  b-lt : b < size
-  b-lt = omega (arith, member-lt size n marks sound b mb)
-
-  -- a set of members with a and without b, whose columns xor to 0
-  module _ (g : ℕ → ℕ) (two : (p : ℕ) → g p < 2) (only-members : (p : ℕ) → g p ≡ 1 → Member marks p) (on-a : g a ≡ 1)
-      (off-b : g b ≡ 0) where
-    member : (y : ℕ) → In y (listed size g) → Member marks y
-    member y i = only-members y (listed-in g two size y i)
-
-    in-a : In a (listed size g)
-    in-a = in-listed g two size a a-lt on-a
-
-    out-b : In b (listed size g) → ⊥
-    out-b = out-occ b (listed size g) (listed-occ g two size b b-lt ∙ off-b)
-
-    pub legal-listed : sum size g ≤ most → xorAll (map κ (listed size g)) ≡ 0 → Legal most n marks (bitXor a b) (listed size g)
-    legal-listed few zeroes =
-        record {
-          few = omega (arith, listed-length g two size);
-          ordered = listed-ascending size g;
-          marked = member;
-          separates = record { a = a; b = b; a-in = in-a; b-member = mb; b-out = out-b; z-is = refl };
-          balanced =
-              balanced-iff n (bitXor a b) t t-lt z-t (listed size g)
-              (λ i l. member-lt size n marks sound (getD (listed size g) i 0) (member (getD (listed size g) i 0) (i, l, refl))) .1 zeroes;
-        }
-
-  pub offer : Reach most n t marks a b → Offer most n marks a b
-  offer r =
+  -- it has x and not its partner: a legal move
+  pub legal-listed : sum size g ≤ most → xorAll (listed size g) ≡ 0 → xorAll (map (column n z t) (listed size g)) ≡ 0
+      → Legal most n marks z (listed size g)
+  legal-listed few zero-xor zeroes =
       record {
-        Y = listed size g;
-        legal =
-            legal-listed g two only-members on-a off-b
-            (omega (arith, listed-length g two size, length-sumOver (listed size g), length-sumOver W, sums (λ y. 1), r .few))
-            (xorAll-more κ a (listed size g) W (λ c. ap (λ (x : ℕ). x % 2) (sums c)) ∙ rw (r .reaches) (xor-self (κ a)));
-        a-in = in-a g two only-members on-a off-b;
-        b-out = out-b g two only-members on-a off-b;
+        few = omega (arith, listed-length g two size);
+        ordered = listed-ascending size g;
+        marked = member;
+        separates =
+            record {
+              a = x;
+              b = bitXor x z;
+              a-in = in-listed g two size x (fits x (only-members x on)) on;
+              b-member = partner;
+              b-out = out-occ (bitXor x z) (listed size g) (listed-occ g two size (bitXor x z) (fits (bitXor x z) partner) ∙ off);
+              z-is = sym (partner-back x z);
+            };
+        balanced = balanced-iff n z t t-lt z-t (listed size g) .1 (zero-xor, zeroes);
       }
+
+-- ---- a legal move, brought to singles and one of each pair
+
+-- a number p with mark m and its partner with mark m′, of which Y has o; l is 1 where p is the smaller, l′ where it is the larger
+split : (o m m′ l l′ c : ℕ) → o ≤ m → m < 2 → m′ < 2 → l + l′ ≡ 1 → o * c ≡ o * (1 - m′) * c + (m * m′ * l * (o * c) + m * m′ * l′ * (o * c))
+split zero m m′ l l′ c h hm h′ e = omega arith
+split (suc zero) zero m′ l l′ c h hm h′ e = absurd (omega arith)
+split (suc zero) (suc zero) zero l l′ c h hm h′ e = omega arith
+split (suc zero) (suc zero) (suc zero) zero l′ c h hm h′ e = let q : l′ ≡ 1 = omega arith in rw q (omega arith)
+split (suc zero) (suc zero) (suc zero) (suc l) l′ c h hm h′ e =
+    let p : l ≡ 0 = omega arith in
+    let q : l′ ≡ 0 = omega arith in
+    rw (p, q) (omega arith)
+split (suc zero) (suc zero) (suc (suc m′)) l l′ c h hm h′ e = absurd (omega arith)
+split (suc zero) (suc (suc m)) m′ l l′ c h hm h′ e = absurd (omega arith)
+split (suc (suc o)) m m′ l l′ c h hm h′ e = absurd (omega arith)
+
+-- what is kept of p: itself where its partner is no member; where it is the smaller of a pair, the xor of the two
+pub kept : ℕ → ℕ → ℕ → ℕ → ℕ → ℕ
+kept o o′ m m′ l = o * (1 - m′) + m * m′ * l * ((o + o′) % 2)
+
+kept-two : (o o′ m m′ l : ℕ) → o ≤ m → m < 2 → m′ < 2 → l < 2 → kept o o′ m m′ l < 2
+unfolding kept
+kept-two o o′ zero m′ l h hm h′ hl = let q : o ≡ 0 = omega arith in rw q (omega arith)
+kept-two o o′ (suc zero) zero l h hm h′ hl = omega arith
+kept-two o o′ (suc zero) (suc zero) zero h hm h′ hl = omega arith
+kept-two o o′ (suc zero) (suc zero) (suc zero) h hm h′ hl = omega arith
+kept-two o o′ (suc zero) (suc zero) (suc (suc l)) h hm h′ hl = absurd (omega arith)
+kept-two o o′ (suc zero) (suc (suc m′)) l h hm h′ hl = absurd (omega arith)
+kept-two o o′ (suc (suc m)) m′ l h hm h′ hl = absurd (omega arith)
+
+-- it is a single of Y, or a pair
+kept-which : (o o′ m m′ l : ℕ) → o ≤ m → m < 2 → m′ < 2 → l < 2 → kept o o′ m m′ l ≡ 1
+    → ((m ≡ 1) × (m′ ≢ 1)) ⊎ ((m ≡ 1) × (m′ ≡ 1) × (l ≡ 1))
+unfolding kept
+kept-which o o′ zero m′ l h hm h′ hl e = let q : o ≡ 0 = omega arith in absurd (none (rw q at e))
+  where
+    none : 0 * (1 - m′) + 0 * m′ * l * ((0 + o′) % 2) ≡ 1 → ⊥
+    none f = omega arith
+kept-which o o′ (suc zero) zero l h hm h′ hl e = inl (refl, λ q. omega arith)
+kept-which o o′ (suc zero) (suc zero) zero h hm h′ hl e = absurd (omega arith)
+kept-which o o′ (suc zero) (suc zero) (suc zero) h hm h′ hl e = inr (refl, refl, refl)
+kept-which o o′ (suc zero) (suc zero) (suc (suc l)) h hm h′ hl e = absurd (omega arith)
+kept-which o o′ (suc zero) (suc (suc m′)) l h hm h′ hl e = absurd (omega arith)
+kept-which o o′ (suc (suc m)) m′ l h hm h′ hl e = absurd (omega arith)
+
+kept-term : (x M o o′ c : ℕ) → M < 2 → c < 2 → (x * c + (M * (o * c) + M * (o′ * c))) % 2 ≡ (x + M * ((o + o′) % 2)) * c % 2
+kept-term x zero o o′ c h hc = ap (λ (a : ℕ). a % 2) (omega arith)
+kept-term x (suc zero) o o′ zero h hc = ap (λ (a : ℕ). a % 2) (omega arith)
+kept-term x (suc zero) o o′ (suc zero) h hc = omega arith
+kept-term x (suc zero) o o′ (suc (suc c)) h hc = absurd (omega arith)
+kept-term x (suc (suc M)) o o′ c h hc = absurd (omega arith)
+
+-- one legal move; l is 1 for one of each two partners, and 0 for the other
+module _ (size n most : ℕ) (room : 2 ^ n ≤ size) (marks : List ℕ) (sound : SoundMarks size n marks) (z t : ℕ)
+    (t-lt : t < n) (z-t : bit z t ≡ 1) (Y : List ℕ) (legal : Legal most n marks z Y) (l : ℕ → ℕ)
+    (one : (p : ℕ) → l p + l (bitXor p z) ≡ 1) where
+  -- what is kept of the move
+  abbrev pub r : ℕ → ℕ
+  r p = kept (occ p Y) (occ (bitXor p z) Y) (weight marks p) (weight marks (bitXor p z)) (l p)
+
+  l-two : (p : ℕ) → l p < 2
+  l-two p = omega (arith, one p)
+
+  o-le : (p : ℕ) → occ p Y ≤ weight marks p
+  o-le p = go (occ p Y) refl
     where
-      W : List ℕ
-      W = r .W
+      go : (k : ℕ) → occ p Y ≡ k → k ≤ weight marks p
+      go zero e = omega arith
+      go (suc k) e = omega (arith, occ-once 0 p Y (rising Y (legal .ordered)), legal .marked p (occ-in p Y (omega arith)))
 
-      g : ℕ → ℕ
-      g p = delta a p + occ p W
+  pub r-two : (p : ℕ) → r p < 2
+  r-two p =
+      kept-two (occ p Y) (occ (bitXor p z) Y) (weight marks p) (weight marks (bitXor p z)) (l p) (o-le p) (sound .bits p)
+      (sound .bits (bitXor p z)) (l-two p)
 
-      no-a : occ a W ≡ 0
-      no-a = occ-out a W (λ i. r .others a i .not-a refl)
+  -- it is a member without its partner, or one of a pair
+  pub r-which : (p : ℕ) → r p ≡ 1
+      → (Member marks p × (Member marks (bitXor p z) → ⊥)) ⊎ (Member marks p × Member marks (bitXor p z) × (l p ≡ 1))
+  r-which p =
+      kept-which (occ p Y) (occ (bitXor p z) Y) (weight marks p) (weight marks (bitXor p z)) (l p) (o-le p) (sound .bits p)
+      (sound .bits (bitXor p z)) (l-two p)
 
-      no-b : occ b W ≡ 0
-      no-b = occ-out b W (λ i. r .others b i .not-b refl)
+  -- a bit that partners share
+  module _ (c : ℕ → ℕ) (two-c : (p : ℕ) → c p < 2) (same : (p : ℕ) → c (bitXor p z) ≡ c p) where
+    abbrev alone : ℕ → ℕ
+    alone p = occ p Y * (1 - weight marks (bitXor p z)) * c p
 
-      on-a : delta a a + occ a W ≡ 1
-      on-a = omega (arith, delta-same a, no-a)
+    -- one of a pair, the other, and the other in the place of the one
+    abbrev first : ℕ → ℕ
+    first p = weight marks p * weight marks (bitXor p z) * l p * (occ p Y * c p)
 
-      off-b : delta a b + occ b W ≡ 0
-      off-b = omega (arith, delta-other a b (λ e. apart (sym e)), no-b)
+    abbrev second : ℕ → ℕ
+    second p = weight marks p * weight marks (bitXor p z) * l (bitXor p z) * (occ p Y * c p)
 
-      two : (p : ℕ) → delta a p + occ p W < 2
-      two p = go (ℕ-discrete p a)
-        where
-          go : Dec (p ≡ a) → delta a p + occ p W < 2
-          go (yes e) = rw e (omega (arith, delta-same a, no-a))
-          go (no ne) = omega (arith, delta-other a p ne, occ-marks W (r .ordered) p)
+    abbrev turned : ℕ → ℕ
+    turned p = weight marks p * weight marks (bitXor p z) * l p * (occ (bitXor p z) Y * c p)
 
-      only-members : (p : ℕ) → delta a p + occ p W ≡ 1 → Member marks p
-      only-members p e = go (ℕ-discrete p a)
-        where
-          go : Dec (p ≡ a) → Member marks p
-          go (yes q) = rw q ma
-          go (no ne) = r .others p (occ-in p W (omega (arith, delta-other a p ne))) .member
+    apart : sum (2 ^ n) (λ p. occ p Y * c p) ≡ sum (2 ^ n) alone + (sum (2 ^ n) first + sum (2 ^ n) second)
+    apart =
+        sum-ext (2 ^ n) (λ p. occ p Y * c p) (λ p. alone p + (first p + second p))
+        (λ p h.
+        split (occ p Y) (weight marks p) (weight marks (bitXor p z)) (l p) (l (bitXor p z)) (c p) (o-le p) (sound .bits p)
+        (sound .bits (bitXor p z)) (one p))
+        ∙ sum-add (2 ^ n) alone (λ p. first p + second p) ∙ ap (λ (x : ℕ). sum (2 ^ n) alone + x) (sum-add (2 ^ n) first second)
 
-      inside : Below size W
-      inside i l = omega (arith, r .others (getD W i 0) (i, l, refl) .below)
+    second-turned : sum (2 ^ n) turned ≡ sum (2 ^ n) second
+    second-turned =
+        sum-ext (2 ^ n) turned (λ p. second (bitXor p z)) (λ p h. at p)
+        ∙ sum-xor n z second (z-lt size n most room marks sound z Y legal)
+      where
+        at : (p : ℕ) → weight marks p * weight marks (bitXor p z) * l p * (occ (bitXor p z) Y * c p)
+            ≡ weight marks (bitXor p z) * weight marks (bitXor (bitXor p z) z) * l (bitXor (bitXor p z) z)
+            * (occ (bitXor p z) Y * c (bitXor p z))
+        at p =
+            rw (xor-cancel p z, same p) (swap (weight marks p) (weight marks (bitXor p z)) (l p) (occ (bitXor p z) Y * c p))
+          where
+            swap : (a b d e : ℕ) → a * b * d * e ≡ b * a * d * e
+            swap a b d e = ap (λ (x : ℕ). x * d * e) (mul-comm a b)
 
-      sums : (c : ℕ → ℕ) → sumOver c (listed size (λ p. delta a p + occ p W)) ≡ c a + sumOver c W
-      sums c =
-          listed-more size a (λ p. occ p W) (λ p. delta a p + occ p W) (occ-marks W (r .ordered)) two a-lt (λ p l. refl) c
-          ∙ ap (λ (x : ℕ). c a + x) (listed-sum (λ p. occ p W) (occ-marks W (r .ordered)) size c ∙ sym (sumOver-occ size c W inside))
+    together : sum (2 ^ n) (λ p. alone p + (first p + turned p)) ≡ sum (2 ^ n) alone + (sum (2 ^ n) first + sum (2 ^ n) second)
+    together =
+        sum-add (2 ^ n) alone (λ p. first p + turned p)
+        ∙ ap (λ (x : ℕ). sum (2 ^ n) alone + x)
+        (sum-add (2 ^ n) first turned ∙ ap (λ (x : ℕ). sum (2 ^ n) first + x) second-turned)
 
-  pub reach : Offer most n marks a b → Reach most n t marks a b
-  reach o =
-      record {
-        W = W;
-        few = omega (arith, length-sumOver Y, length-sumOver W, sums (λ y. 1), o .legal .few);
-        ordered = listed-ascending size f;
-        others = other;
-        reaches = sym (xor-equal (κ a) (xorAll (map κ W)) (sym (xorAll-more κ a Y W (λ c. ap (λ (x : ℕ). x % 2) (sums c))) ∙ zeroes));
-      }
+    term : (p : ℕ) → (alone p + (first p + turned p)) % 2 ≡ r p * c p % 2
+    unfolding kept
+    term p =
+        kept-term (occ p Y * (1 - weight marks (bitXor p z))) (weight marks p * weight marks (bitXor p z) * l p) (occ p Y)
+        (occ (bitXor p z) Y) (c p)
+        (mul-lt (weight marks p * weight marks (bitXor p z)) (l p)
+        (mul-lt (weight marks p) (weight marks (bitXor p z)) (sound .bits p) (sound .bits (bitXor p z))) (l-two p)) (two-c p)
+
+    -- its sum over Y is, modulo 2, that over what is kept
+    sums : sumOver c Y % 2 ≡ sumOver c (listed (2 ^ n) r) % 2
+    sums =
+        ap (λ (x : ℕ). x % 2) (sumOver-occ (2 ^ n) c Y (y-lt size n most room marks sound z Y legal) ∙ apart ∙ sym together)
+        ∙ sum-mod 2 (2 ^ n) (λ p. alone p + (first p + turned p)) (λ p. r p * c p) (λ p h. term p)
+        ∙ ap (λ (x : ℕ). x % 2) (sym (listed-sum r r-two (2 ^ n) c))
+
+  pub columns-zero : xorAll (map (column n z t) (listed (2 ^ n) r)) ≡ 0
+  columns-zero =
+      bit-eq _ _ (λ u.
+      xorAll-map-bit (column n z t) u (listed (2 ^ n) r)
+      ∙ sym (sums (λ y. bit (column n z t y) u) (λ p. bit-lt (column n z t p) u)
+      (λ p. ap (λ (x : ℕ). bit x u) (column-partner z t z-t n p)))
+      ∙ sym (xorAll-map-bit (column n z t) u Y)
+      ∙ ap (λ (x : ℕ). bit x u) (balanced-iff n z t t-lt z-t Y .0 (legal .balanced) .1))
+
+  open Separates (legal .separates) using (a, b, a-in, b-member, b-out, z-is)
+
+  a-to-b : bitXor a z ≡ b
+  a-to-b = ap (bitXor a) z-is ∙ partner-back a b
+
+  b-to-a : bitXor b z ≡ a
+  b-to-a = ap (λ (x : ℕ). bitXor x z) (sym a-to-b) ∙ xor-cancel a z
+
+  occ-a : occ a Y ≡ 1
+  occ-a = omega (arith, in-occ a Y a-in, occ-once 0 a Y (rising Y (legal .ordered)))
+
+  occ-b : occ b Y ≡ 0
+  occ-b = occ-out b Y b-out
+
+  marked-a : weight marks a ≡ 1
+  marked-a = a-member size n most room marks sound z Y legal
+
+  -- the pair that Y takes apart is kept
+  pub record KeptPair : Type 0 where
+    pub p : ℕ
+    pub member-p : Member marks p
+    pub partner-p : Member marks (bitXor p z)
+    pub chosen : l p ≡ 1
+    pub on-p : r p ≡ 1
+
+  pub kept-pair : KeptPair
+  unfolding kept
+  kept-pair = go (ℕ-discrete (l a) 1)
     where
-      Y : List ℕ
-      Y = o .Y
-
-      f : ℕ → ℕ
-      f p = occ p Y - delta a p
-
-      W : List ℕ
-      W = listed size f
-
-      two : (p : ℕ) → occ p Y - delta a p < 2
-      two p = omega (arith, occ-marks Y (o .legal .ordered) p)
-
-      whole : (p : ℕ) → occ p Y ≡ delta a p + (occ p Y - delta a p)
-      whole p = go (ℕ-discrete p a)
-        where
-          go : Dec (p ≡ a) → occ p Y ≡ delta a p + (occ p Y - delta a p)
-          go (yes e) = rw e (omega (arith, delta-same a, in-occ a Y (o .a-in)))
-          go (no ne) = omega (arith, delta-other a p ne)
-
-      inside : Below (2 ^ n) Y
-      inside = y-lt size n most room marks sound (bitXor a b) Y (o .legal)
-
-      sums : (c : ℕ → ℕ) → sumOver c Y ≡ c a + sumOver c (listed size (λ p. occ p Y - delta a p))
-      sums c =
-          sumOver-occ size c Y (λ i l. omega (arith, inside i l)) ∙ sym (listed-sum (λ p. occ p Y) (occ-marks Y (o .legal .ordered)) size c)
-          ∙ listed-more size a (λ p. occ p Y - delta a p) (λ p. occ p Y) two (occ-marks Y (o .legal .ordered)) a-lt (λ p l. whole p) c
-
-      other : (y : ℕ) → In y W → Other (2 ^ n) marks a b y
-      other y i =
-          let e : occ y Y - delta a y ≡ 1 = listed-in f two size y i in
-          let m : Member marks y = o .legal .marked y (occ-in y Y (omega arith)) in
+      go : Dec (l a ≡ 1) → KeptPair
+      go (yes h) =
           record {
-            below = member-lt size n marks sound y m;
-            member = m;
-            not-a = λ q. omega (arith, occ-marks Y (o .legal .ordered) y, delta-same a, ap (delta a) q);
-            not-b = λ q. omega (arith, occ-out b Y (o .b-out), ap (λ (x : ℕ). occ x Y) q);
+            p = a;
+            member-p = marked-a;
+            partner-p = rw a-to-b b-member;
+            chosen = h;
+            on-p = rw (a-to-b, occ-a, occ-b, marked-a, b-member, h);
+          }
+      go (no h) =
+          let g : l b ≡ 1 = omega (arith, one a, ap l a-to-b) in
+          record {
+            p = b;
+            member-p = b-member;
+            partner-p = rw b-to-a marked-a;
+            chosen = g;
+            on-p = rw (b-to-a, occ-a, occ-b, marked-a, b-member, g);
           }
 
-      zeroes : xorAll (map κ Y) ≡ 0
-      zeroes = balanced-iff n (bitXor a b) t t-lt z-t Y inside .0 (o .legal .balanced)
+-- ---- of a pair, the member without wire t
 
-  pub offer-iff : Offer most n marks a b ↔ Reach most n t marks a b
-  offer-iff = (reach, offer)
+module _ (size n most : ℕ) (room : 2 ^ n ≤ size) (marks : List ℕ) (sound : SoundMarks size n marks) (z t : ℕ)
+    (t-lt : t < n) (z-t : bit z t ≡ 1) (Y : List ℕ) (legal : Legal most n marks z Y) where
+  abbrev l : ℕ → ℕ
+  l p = 1 - bit p t
 
--- ---- and so for all moves
+  one : (p : ℕ) → l p + l (bitXor p z) ≡ 1
+  one p = go (bit-values (bit p t) (bit-lt p t))
+    where
+      turned : bit (bitXor p z) t ≡ (bit p t + 1) % 2
+      turned = bit-xor p z t ∙ ap (λ (x : ℕ). (bit p t + x) % 2) z-t
 
--- a legal move offers its own pair
-pub legal-offers : (most n : ℕ) (marks : List ℕ) (z : ℕ) (Y : List ℕ) (legal : Legal most n marks z Y)
-    → Offer most n marks (legal .separates .a) (legal .separates .b)
-legal-offers most n marks z Y legal =
-    let s : Separates marks z Y = legal .separates in
-    record { Y = Y; legal = subst (λ (x : ℕ). Legal most n marks x Y) (s .z-is) legal; a-in = s .a-in; b-out = s .b-out }
+      go : (bit p t ≡ 0) ⊎ (bit p t ≡ 1) → 1 - bit p t + (1 - bit (bitXor p z) t) ≡ 1
+      go (inl e) = rw (turned, e)
+      go (inr e) = rw (turned, e)
 
-pub legal-apart : (most n : ℕ) (marks : List ℕ) (z : ℕ) (Y : List ℕ) (legal : Legal most n marks z Y)
-    → legal .separates .a ≢ legal .separates .b
-legal-apart most n marks z Y legal e =
-    let s : Separates marks z Y = legal .separates in
-    s .b-out (s .a-in .0, s .a-in .1, s .a-in .2 ∙ e)
+  abbrev half : ℕ → ℕ
+  half p = kept (occ p Y) (occ (bitXor p z) Y) (weight marks p) (weight marks (bitXor p z)) (1 - bit p t)
 
--- where no two members are offered a move, none is legal
-pub none-offered : (most n : ℕ) (marks : List ℕ) → ((a b : ℕ) → Member marks a → Member marks b → a ≢ b → Offer most n marks a b → ⊥)
-    → NoneLegal most n marks
-none-offered most n marks none z Y legal =
-    let s : Separates marks z Y = legal .separates in
-    none (s .a) (s .b) (legal .marked (s .a) (s .a-in)) (s .b-member) (legal-apart most n marks z Y legal)
-    (legal-offers most n marks z Y legal)
+  stands : (p : ℕ) → half p ≡ 1 → Stands marks z t p
+  stands p e = go (r-which size n most room marks sound z t t-lt z-t Y legal l one p e)
+    where
+      go : (Member marks p × (Member marks (bitXor p z) → ⊥)) ⊎ (Member marks p × Member marks (bitXor p z) × (1 - bit p t ≡ 1))
+          → Stands marks z t p
+      go (inl h) = record { member = h .0; alone = λ w. h .1 }
+      go (inr h) = record { member = h .0; alone = λ w q. omega (arith, h .2) }
 
--- a pair a < b both ways round is enough
-pub none-both : (most n : ℕ) (marks : List ℕ)
-    → ((a b : ℕ) → Member marks a → Member marks b → a < b → (Offer most n marks a b → ⊥) × (Offer most n marks b a → ⊥))
-    → NoneLegal most n marks
-none-both most n marks none = none-offered most n marks (λ a b ma mb ne. go a b ma mb ne (decLt a b))
-  where
-    go : (a b : ℕ) → Member marks a → Member marks b → a ≢ b → Dec (a < b) → Offer most n marks a b → ⊥
-    go a b ma mb ne (yes l) = none a b ma mb l .0
-    go a b ma mb ne (no l) = none b a mb ma (omega arith) .1
+  half-two : (p : ℕ) → half p < 2
+  half-two = r-two size n most room marks sound z t t-lt z-t Y legal l one
 
--- with low z a wire of z: where no pair reaches, no move is legal
-pub none-reached : (size n most : ℕ) → 2 ^ n ≤ size → (marks : List ℕ) → SoundMarks size n marks
-    → (low : ℕ → ℕ) → ((z : ℕ) → z ≢ 0 → z < 2 ^ n → (low z < n) × (bit z (low z) ≡ 1))
-    → ((a b : ℕ) → Member marks a → Member marks b → a ≢ b → Reach most n (low (bitXor a b)) marks a b → ⊥)
-    → NoneLegal most n marks
-none-reached size n most room marks sound low is-low none =
-    none-offered most n marks
-    (λ a b ma mb ne o.
-    let h = is-low (bitXor a b) (λ e. ne (xor-equal a b e))
-    (xor-lt n a b (member-lt size n marks sound a ma) (member-lt size n marks sound b mb)) in
-    none a b ma mb ne (reach size n most room marks sound a b (low (bitXor a b)) ma mb (h .0) (h .1) o))
+  -- the tag of p has the bit of p alone, and has it where the partner of p is a member
+  tag-bit : (q p : ℕ) → bit (pairTag marks z q) p ≡ weight marks (bitXor q z) * bit (2 ^ q) p
+  unfolding pairTag
+  tag-bit q p = bit-scale (weight marks (bitXor q z)) (2 ^ q) p (sound .bits (bitXor q z))
+
+  -- what is kept has the tag of the pair that Y takes apart
+  pub kept-tag : xorAll (map (pairTag marks z) (listed (2 ^ n) half)) ≢ 0
+  kept-tag e =
+      let s = kept-pair size n most room marks sound z t t-lt z-t Y legal l one in
+      let p : ℕ = s .p in
+      let own : half p * bit (pairTag marks z p) p ≡ 1 =
+      rw (tag-bit p p, s .on-p, s .partner-p, bit-pow-same p) in
+      let zero : bit (xorAll (map (pairTag marks z) (listed (2 ^ n) half))) p ≡ 0 = ap (λ (x : ℕ). bit x p) e ∙ bit-of-zero p in
+      omega (
+        arith,
+        sym (xorAll-map-bit (pairTag marks z) p (listed (2 ^ n) half)) ∙ zero,
+        listed-sum half half-two (2 ^ n) (λ q. bit (pairTag marks z q) p),
+        sum-single (2 ^ n) p (λ q. half q * bit (pairTag marks z q) p) (member-lt size n marks sound p (s .member-p)) (λ q h ne. other q p ne),
+      )
+    where
+      other : (q p : ℕ) → q ≢ p → half q * bit (pairTag marks z q) p ≡ 0
+      other q p ne =
+          rw (tag-bit q p, bit-pow-other q p ne, mul-zero (weight marks (bitXor q z))) (mul-zero (half q))
+
+  -- so where columns that xor to 0 have tags that do, no move with this z is legal
+  pub none-tagged : ((W : List ℕ) → ((i : ℕ) → i < length W → Stands marks z t (getD W i 0)) → xorAll (map (column n z t) W) ≡ 0
+      → xorAll (map (pairTag marks z) W) ≡ 0) → ⊥
+  none-tagged closed =
+      kept-tag
+      (closed (listed (2 ^ n) half)
+      (λ i h. stands (getD (listed (2 ^ n) half) i 0) (listed-in half half-two (2 ^ n) (getD (listed (2 ^ n) half) i 0) (i, h, refl)))
+      (columns-zero size n most room marks sound z t t-lt z-t Y legal l one))

@@ -10,12 +10,12 @@ use Rattle.circuit.specs.OddSet.{memberCount}
 use Rattle.circuit.specs.Sound.{SoundMarks}
 use Rattle.phase.specs.Signature.{SameSignature}
 use Rattle.moves.proofs.Keep.{keeps, sound-kept}
-use Rattle.moves.proofs.Logs.{cells-unique, logged-later, move-short}
+use Rattle.moves.proofs.Logs.{cells-say, cells-unique, logged-later, move-short}
 use Rattle.moves.proofs.Shrink.{shrinks}
 use Rattle.moves.specs.CarryOut.{carryOut}
-use Rattle.moves.specs.Log.{LegalCells, asCells, logged, moveAt}
-use Rattle.moves.specs.Move.{NoneLegal}
-use Rattle.moves.specs.Replay.{Replays}
+use Rattle.moves.specs.Log.{LegalCells, SmallestCells, asCells, logged, moveAt, setOf, zOf}
+use Rattle.moves.specs.Move.{NoneBelow, NoneLegal}
+use Rattle.moves.specs.Replay.{Replays, SmallestEach}
 
 pub signature-same : (n : ℕ) (w : List ℕ) → SameSignature n w w
 signature-same n w = record { l2 = λ i h. refl; q2 = λ i j h g. refl; c2 = λ i j k h g f. refl }
@@ -40,6 +40,36 @@ pub replays-more : (most n : ℕ) (m : List ℕ) (moves : List (List ℕ)) (m′
 unfolding Replays
 replays-more most n m [] m′ cells f e = subst (λ (x : List ℕ). Replays most n x (cells ∷ []) (carryOut m′ (f .z) (f .Y))) (sym e) (f, refl)
 replays-more most n m (g ∷ moves) m′ cells f r = (r .0, replays-more most n (carryOut m (r .0 .z) (r .0 .Y)) moves m′ cells f (r .1))
+
+-- ---- each with the smallest z
+
+pub smallest-none : (most n : ℕ) (m : List ℕ) → SmallestEach most n m []
+unfolding SmallestEach
+smallest-none most n m = tt
+
+pub smallest-more : (most n : ℕ) (m : List ℕ) (moves : List (List ℕ)) (m′ cells : List ℕ) → Replays most n m moves m′
+    → NoneBelow most n m′ (zOf cells) → SmallestEach most n m moves → SmallestEach most n m (moves ++ (cells ∷ []))
+unfolding Replays SmallestEach
+smallest-more most n m [] m′ cells e least s = (subst (λ (x : List ℕ). NoneBelow most n x (zOf cells)) (sym e) least, tt)
+smallest-more most n m (g ∷ moves) m′ cells r least s =
+    let f : LegalCells most n m g = r .0 in
+    let t = cells-say most (f .z) (f .Y) g (f .is) in
+    let next : Replays most n (carryOut m (zOf g) (setOf g)) moves m′ = rw (t .0, t .1) (r .1) in
+    (s .0, smallest-more most n (carryOut m (zOf g) (setOf g)) moves m′ cells next least (s .1))
+
+-- for the same marks the smallest z is one
+pub smallest-one-z : (most n : ℕ) (m cells cells′ : List ℕ) → SmallestCells most n m cells → SmallestCells most n m cells′
+    → zOf cells ≡ zOf cells′
+smallest-one-z most n m cells cells′ s s′ =
+    let f : LegalCells most n m cells = s .legal in
+    let g : LegalCells most n m cells′ = s′ .legal in
+    omega (
+      arith,
+      cells-say most (f .z) (f .Y) cells (f .is) .0,
+      cells-say most (g .z) (g .Y) cells′ (g .is) .0,
+      s .smallest (g .z) (g .Y) (g .legal),
+      s′ .smallest (f .z) (f .Y) (f .legal),
+    )
 
 -- ---- what replaying does
 

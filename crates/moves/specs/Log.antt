@@ -7,7 +7,7 @@ use Prim.Native.Nat.{_*_, _+_, _-_, _<_, _≤_, suc, zero, ℕ}
 use lib.Dec.{leb}
 use lib.ListN.{drop, getD, length, replicate, take}
 use Rattle.circuit.specs.Limits.{moveHead}
-use Rattle.moves.specs.Move.{Legal}
+use Rattle.moves.specs.Move.{Legal, NoneBelow}
 
 -- z, the number in Y, Y ascending, zeros: most + moveHead cells in all
 unfoldable pub asCells : ℕ → ℕ → List ℕ → List ℕ
@@ -36,6 +36,11 @@ pub record LegalCells (most n : ℕ) (marks cells : List ℕ) : Type 0 where
   pub Y : List ℕ
   pub is : cells ≡ asCells most z Y
   pub legal : Legal most n marks z Y
+
+-- and no legal move for these marks has a smaller z
+pub record SmallestCells (most n : ℕ) (marks cells : List ℕ) : Type 0 where
+  pub legal : LegalCells most n marks cells
+  pub smallest : NoneBelow most n marks (zOf cells)
 
 -- the cells of move k, counted from 0, as part of the log; empty if the log has fewer than size·k + size cells
 unfoldable pub moveAt : ℕ → List ℕ → ℕ → List ℕ

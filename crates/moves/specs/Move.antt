@@ -45,3 +45,7 @@ pub record Movable (most n : ℕ) (marks : List ℕ) : Type 0 where
 -- no z and Y make a legal move for these marks
 abbrev pub NoneLegal : ℕ → ℕ → List ℕ → Type 0
 NoneLegal most n marks = (z : ℕ) (Y : List ℕ) → Legal most n marks z Y → ⊥
+
+-- every legal move for these marks has a z of k or more
+abbrev pub NoneBelow : ℕ → ℕ → List ℕ → ℕ → Type 0
+NoneBelow most n marks k = (z : ℕ) (Y : List ℕ) → Legal most n marks z Y → k ≤ z

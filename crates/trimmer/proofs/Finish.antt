@@ -13,7 +13,7 @@ use Rattle.circuit.specs.Sound.{SoundReading, SoundRows, SoundWeights}
 use Rattle.circuit.specs.TableFaults.{Marked}
 use Rattle.moves.proofs.Laws.{limits-suffice}
 use Rattle.moves.specs.Log.{logged}
-use Rattle.moves.specs.Replay.{Replays}
+use Rattle.moves.specs.Replay.{Replays, SmallestEach}
 use Rattle.phase.proofs.Laws.{new-weights-sound, odd-set-is-sound}
 use Rattle.phase.specs.NewWeights.{newWeights}
 use Rattle.synth.specs.Entry.{Wrote, WroteBytes}
@@ -80,6 +80,10 @@ module _ {n : ℕ} {bytes out log w rows first : List ℕ} {k : ℕ} {last log�
   replayed =
       subst (λ (x : List ℕ). Replays maxMembers n x (logged moveCells log′ k) last) (first-is (c .marked)) (c .all .made .replayed)
 
+  smallest : SmallestEach maxMembers n (oddSetOf n (gatesOf bytes)) (logged moveCells log′ k)
+  smallest =
+      subst (λ (x : List ℕ). SmallestEach maxMembers n x (logged moveCells log′ k)) (first-is (c .marked)) (c .all .made .smallest)
+
 -- the new weights are found
 pub record WeighedC (n : ℕ) (bytes out log w rows first : List ℕ) (k : ℕ) (last log′ new : List ℕ) : Type 0 where
   pub moved : MovedC n bytes out log w rows first k last log′
@@ -119,7 +123,7 @@ module _ {n : ℕ} {bytes out log w rows first : List ℕ} {k : ℕ} {last log�
       let tD : tGates D ≡ memberCount (oddSetOf n D) =
       list .t-gates ∙ ap (λ (r : Reading). memberCount (oddSet (r .weights))) (sym (list .reads)) in
       let all : Trimmed n C D log′ counts =
-      whole n (accepted .few) C (accepted .formed) log′ k last (replayed (c .moved)) (c .moved .all .none) D (list .formed) wD rD tD
+      whole n (accepted .few) C (accepted .formed) log′ k last (replayed (c .moved)) (smallest (c .moved)) (c .moved .all .none) D (list .formed) wD rD tD
       counts tin (odd ∙ ap memberCount (first-is (c .moved .marked))) tout moves (gates ∙ wrote .counted) in
       let new-C : new ≡ newWeights parities n (weightsOf n C) (oddSetOf n D) =
       sym (ap (λ (r : Reading). r .weights) (list .reads)) ∙ all .weights in

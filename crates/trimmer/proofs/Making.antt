@@ -15,14 +15,15 @@ use Rattle.circuit.specs.TableFaults.{Marked}
 use Rattle.gf2.proofs.Sum.{sum-const, sum-front, sum-le}
 use Rattle.moves.proofs.Laws.{limits-suffice, move-leaves-sound, move-shrinks}
 use Rattle.moves.proofs.Logs.{cells-length, cells-say, logged-length, logged-more}
-use Rattle.moves.proofs.Replaying.{replays-more, replays-none, replays-shrinks, replays-sound}
+use Rattle.moves.proofs.Replaying.{replays-more, replays-none, replays-shrinks, replays-sound, smallest-more, smallest-none}
 use Rattle.moves.specs.CarryOut.{carryOut}
-use Rattle.moves.specs.Log.{LegalCells, logged, setOf, zOf}
+use Rattle.moves.specs.Log.{LegalCells, SmallestCells, logged, setOf, zOf}
 use Rattle.trimmer.specs.Steps.{Made}
 
 pub made-none : (n : ℕ) (m log : List ℕ) (k : ℕ) → k ≡ 0 → Made n m log k m log
 unfolding logged
-made-none n m log k e = rw e (record { replayed = replays-none maxMembers n m; kept = kept-all log })
+made-none n m log k e =
+    rw e (record { replayed = replays-none maxMembers n m; smallest = smallest-none maxMembers n m; kept = kept-all log })
 
 -- the marks after a legal move are sound
 pub moved-sound : {n : ℕ} {marks cells marks′ : List ℕ} → Marked n marks → LegalCells maxMembers n marks cells
@@ -79,8 +80,11 @@ module _ {n : ℕ} {m before : List ℕ} {k : ℕ} {marks log : List ℕ} (turn 
         logged-length moveCells k log,
       )
 
-  -- a legal move: there is room for it in the log, and it makes the odd set smaller
-  module _ {cells : List ℕ} (f : LegalCells maxMembers n marks cells) where
+  -- a legal move with the smallest z: there is room for it in the log, and it makes the odd set smaller
+  module _ {cells : List ℕ} (found : SmallestCells maxMembers n marks cells) where
+    abbrev f : LegalCells maxMembers n marks cells
+    f = found .legal
+
     smaller : memberCount (carryOut marks (f .z) (f .Y)) + 1 ≤ memberCount marks
     smaller = move-shrinks parities n maxMembers (limits-suffice n fits .0) marks (still-marked .sound) (f .z) (f .Y) (f .legal)
 
@@ -108,5 +112,9 @@ module _ {n : ℕ} {m before : List ℕ} {k : ℕ} {marks log : List ℕ} (turn 
           replayed =
               rw (ek, em ∙ carried, el, add-one k, logged-more moveCells k log cells cells-long move-room)
               (replays-more maxMembers n m (logged moveCells log k) marks cells f (turn .made .replayed));
+          smallest =
+              rw (ek, el, add-one k, logged-more moveCells k log cells cells-long move-room)
+              (smallest-more maxMembers n m (logged moveCells log k) marks cells (turn .made .replayed) (found .smallest)
+              (turn .made .smallest));
           kept = rw (ek, el, at) (kept-placed (turn .made .kept) cells (omega (arith, move-room, cells-long)));
         }

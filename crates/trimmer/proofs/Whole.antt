@@ -22,7 +22,7 @@ use Rattle.moves.proofs.Logs.{logged-length}
 use Rattle.moves.proofs.Replaying.{replays-shrinks, replays-signature, replays-sound, signature-trans}
 use Rattle.moves.specs.Log.{logged}
 use Rattle.moves.specs.Move.{NoneLegal}
-use Rattle.moves.specs.Replay.{Replays}
+use Rattle.moves.specs.Replay.{Replays, SmallestEach}
 use Rattle.phase.proofs.Laws.{new-weights-odd-set, new-weights-same-phases, odd-set-has-signature, odd-set-is-sound}
 use Rattle.phase.specs.NewWeights.{newWeights}
 use Rattle.phase.specs.Signature.{SameSignature}
@@ -55,7 +55,7 @@ module _ (n : ℕ) (fit : n ≤ maxWires) (C : List Gate) (fC : AllWellFormed n 
       (replays-signature parities n maxMembers (limits-suffice n fit .0) (oddSetOf n C) (logged moveCells log k) marks first replayed)
       (odd-set-has-signature n (weightsOf n C))
 
-  module _ (none : NoneLegal maxMembers n marks) (D : List Gate) (fD : AllWellFormed n D)
+  module _ (smallest : SmallestEach maxMembers n (oddSetOf n C) (logged moveCells log k)) (none : NoneLegal maxMembers n marks) (D : List Gate) (fD : AllWellFormed n D)
       (wD : weightsOf n D ≡ newWeights parities n (weightsOf n C) marks) (rD : read maxWires n D .rows ≡ read maxWires n C .rows)
       (tD : tGates D ≡ memberCount (oddSetOf n D)) where
     odd-D : oddSetOf n D ≡ marks
@@ -94,6 +94,7 @@ module _ (n : ℕ) (fit : n ≤ maxWires) (C : List Gate) (fC : AllWellFormed n 
                 none-legal-bound parities n maxMembers (limits-suffice n fit .0) marks marks-sound (limits-suffice n fit .1) none,
               );
           replayed = made;
+          smallest = rw moves smallest;
           weights = rw odd-D wD;
           finished = last;
           moves-logged = λ m r. one-number maxMembers n moveCells log (oddSetOf n C) m (counts .moves) (oddSetOf n D) last r made;

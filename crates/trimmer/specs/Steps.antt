@@ -6,15 +6,15 @@ use Rattle.circuit.specs.Lent.{KeptFrom}
 use Rattle.circuit.specs.Limits.{maxMembers, moveCells, parities}
 use Rattle.circuit.specs.TableFaults.{Marked}
 use Rattle.moves.specs.CarryOut.{carryOut}
-use Rattle.moves.specs.Log.{LegalCells, logged, setOf, zOf}
+use Rattle.moves.specs.Log.{SmallestCells, logged, setOf, zOf}
 use Rattle.moves.specs.Move.{NoneLegal}
-use Rattle.moves.specs.Replay.{Replays}
+use Rattle.moves.specs.Replay.{Replays, SmallestEach}
 use Rattle.moves.specs.declared.Sought.{Sought}
 use Rattle.moves.specs.declared.Sought.the-variants.{Found, Nothing}
 
--- what a search said of the marks: a legal move, or none at all
+-- what a search said of the marks: a legal move with the smallest z, or none at all
 abbrev pub NextMove : ℕ → List ℕ → Sought → List ℕ → Type 0
-NextMove n marks Found cells = LegalCells maxMembers n marks cells
+NextMove n marks Found cells = SmallestCells maxMembers n marks cells
 NextMove n marks Nothing cells = NoneLegal maxMembers n marks
 
 -- a move was found, and the count has room for it
@@ -33,6 +33,7 @@ pub record Stepped (n : ℕ) (marks f : List ℕ) (k : ℕ) (marks′ : List ℕ
 -- from the marks m and the log before, k moves have been made
 pub record Made (n : ℕ) (m before : List ℕ) (k : ℕ) (marks log : List ℕ) : Type 0 where
   pub replayed : Replays maxMembers n m (logged moveCells log k) marks
+  pub smallest : SmallestEach maxMembers n m (logged moveCells log k)
   pub kept : KeptFrom (moveCells * k) before log
 
 -- all legal moves made: k of them, and none is left

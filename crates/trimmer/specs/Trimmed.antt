@@ -11,7 +11,7 @@ use Rattle.circuit.specs.Read.{read}
 use Rattle.circuit.specs.Run.{SameAction}
 use Rattle.moves.specs.Log.{logged}
 use Rattle.moves.specs.Move.{NoneLegal}
-use Rattle.moves.specs.Replay.{Replays}
+use Rattle.moves.specs.Replay.{Replays, SmallestEach}
 use Rattle.phase.specs.NewWeights.{newWeights}
 use Rattle.trimmer.specs.declared.Counts.{Counts}
 
@@ -38,6 +38,8 @@ pub record Trimmed (n : ℕ) (C D : List Gate) (log : List ℕ) (counts : Counts
   -- the logged moves in order, the first on C's odd set and each later one on what the one before left: each is legal on the marks it
   -- gets, and the marks after the last one, or C's odd set if there is none, are D's odd set
   pub replayed : Replays maxMembers n (oddSetOf n C) (logged moveCells log (counts .moves)) (oddSetOf n D)
+  -- and no legal move on the marks that a move gets has a smaller z (document 02, 2.7)
+  pub smallest : SmallestEach maxMembers n (oddSetOf n C) (logged moveCells log (counts .moves))
   -- D's weights are document 01's new weights for C and that set
   pub weights : weightsOf n D ≡ newWeights parities n (weightsOf n C) (oddSetOf n D)
   -- no z and Y make a legal move from D's odd set

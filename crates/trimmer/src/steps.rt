@@ -73,13 +73,13 @@ pub struct Next {
     pub cells: [MoveCell; MOVE_CELLS],
 }
 
-// A legal move for sound marks, if there is one.
+// A legal move with the smallest z for sound marks, if there is one.
 pub fn next_move(n: usize, marks: [Mark; TABLE_BYTES]) -> Next
     requires { ⌜ Marked n marks ⌝ }
     ensures { λ r. ⌜ NextMove n marks (r .found) (r .cells) ⌝ }
 {
     let mut cells = [0 as MoveCell; MOVE_CELLS];
-    let found = search(&marks, &mut cells);
+    let found = search(n, &marks, &mut cells);
     Next {
         found: found,
         cells: cells,

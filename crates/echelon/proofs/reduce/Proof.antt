@@ -5,52 +5,46 @@ use native.Mathlib.Omega.{arith}
 use borrow.Author.Needs.{needs}
 use denote.Ref.{now}
 use Rattle.circuit.specs.Limits.{productBits}
-use Rattle.gf2.proofs.Echelon.{reached-start, reached-step}
+use Rattle.gf2.proofs.Echelon.{reached-start}
 use Rattle.gf2.specs.Echelon.{Reached}
-use Rattle.echelon.proofs.Slots.{falls, stops}
+use Rattle.echelon.proofs.Slots.{falls, stops, takes}
 use Rattle.echelon.proofs.reduce.Statement.{statement}
 use Rattle.echelon.proofs.reduce.Tie as tie
 
 abbrev Inv-loop : tie.InvT-loop
-Inv-loop vec mask v left₀ m₀ left m = (left < 2 ^ productBits) × Reached vec mask v left m
+Inv-loop vec v left₀ used₀ left used = (left < 2 ^ productBits) × Reached vec v left used
 
 abbrev μ-loop : tie.MeasureT-loop
-μ-loop vec mask v left₀ m₀ left m = left
+μ-loop vec v left₀ used₀ left used = left
 
 loop-holds : tie.Need-loop-holds Inv-loop μ-loop
-loop-holds c = (search needs, reached-start (now (c .args .vec)) (now (c .args .mask)) (c .args .v))
+loop-holds c = (search needs, reached-start (now (c .args .vec)) (c .args .v))
+
+shl-used : tie.Need-shl-used Inv-loop μ-loop
+shl-used c = let slot : tie.After-leading Inv-loop μ-loop = search in omega (arith, slot .leading .ensures .slot)
 
 returns : tie.Need-returns Inv-loop μ-loop
 returns c =
-    let s : tie.Start Inv-loop μ-loop = search in
     let at : tie.At-loop Inv-loop μ-loop = search in
     let slot : tie.After-leading Inv-loop μ-loop = search in
-    let a = s .args in
-    stops (now (a .vec)) (now (a .mask)) (s .pre .0) (at .loop .left) (slot .leading .result) (slot .leading .ensures) (a .v) (at .loop .m)
-    (c .if1 .taken) (at .loop .inv .1)
+    let s : tie.Start Inv-loop μ-loop = search in
+    stops (s .pre .0) (slot .leading .ensures) (c .if1 .taken) (at .loop .inv .1)
 
 loop-less : tie.Need-loop-less Inv-loop μ-loop
 loop-less c =
     let filled : tie.Else1 Inv-loop μ-loop = search in
     let slot : tie.After-leading Inv-loop μ-loop = search in
-    let at : tie.At-loop Inv-loop μ-loop = search in
     let s : tie.Start Inv-loop μ-loop = search in
-    let a = s .args in
-    falls (now (a .vec)) (now (a .mask)) (s .pre .0) (at .loop .left) (slot .leading .result) (slot .leading .ensures) (filled .if1 .left)
+    falls (s .pre .0) (slot .leading .ensures) (filled .if1 .left)
 
 loop-again : tie.Need-loop-again Inv-loop μ-loop
 loop-again c =
     let filled : tie.Else1 Inv-loop μ-loop = search in
     let slot : tie.After-leading Inv-loop μ-loop = search in
     let at : tie.At-loop Inv-loop μ-loop = search in
-    let start : tie.Start Inv-loop μ-loop = search in
-    let a = start .args in
-    let s = slot .leading .result in (
-      omega (
-        arith,
-        falls (now (a .vec)) (now (a .mask)) (start .pre .0) (at .loop .left) s (slot .leading .ensures) (filled .if1 .left),
-      ),
-      reached-step (now (a .vec)) (now (a .mask)) (a .v) (at .loop .left) (at .loop .m) s (at .loop .inv .1),
+    let s : tie.Start Inv-loop μ-loop = search in (
+      omega (arith, falls (s .pre .0) (slot .leading .ensures) (filled .if1 .left)),
+      takes (s .pre .0) (slot .leading .ensures) (filled .if1 .left) (at .loop .inv .1),
     )
 
 returns-2 : tie.Need-returns-2 Inv-loop μ-loop
@@ -72,8 +66,7 @@ reduce-spec =
     returns
     (λ c. search needs)
     (λ c. search needs)
-    (λ c. search needs)
-    (λ c. search needs)
+    shl-used
     loop-less
     loop-again
     returns-2)

@@ -1,47 +1,55 @@
--- What is found of the first members gathered is found of the marks that were lent.
+-- The members of the marks are gathered, and what the scan says of all wires holds of n.
+use mathlib.Core.Path.{_≡_, refl}
+use Prim.Native.Nat.{_%_, _*_, _^_}
 use native.Mathlib.Omega.{arith}
 use borrow.Author.Needs.{needs}
 use denote.Ref.{now}
-use Rattle.finder.proofs.FirstMembers.{enough-members, enough-search}
+use Rattle.circuit.proofs.Steps.{shifted}
+use Rattle.moves.proofs.Laws.{limits-suffice}
+use Rattle.moves.proofs.Wires.{sound-wires}
+use Rattle.finder.proofs.Listing.{gathered-members}
+use Rattle.finder.proofs.OnWires.{scanned-searched}
 use Rattle.finder.proofs.search.Statement.{statement}
 use Rattle.finder.proofs.search.Tie as tie
 
-part-requires : tie.Need-part-requires
-part-requires c κs =
-    let m : tie.After-enough = search in
-    let g : tie.After-gather = search in
-    (omega arith, omega (arith, m .enough .ensures .fits, g .gather .ensures .fits, g .gather .ensures .long))
+-- the parities of n wires, as the machine shifts
+size-is : (s : tie.Start) → 1 * 2 ^ (s .args .n) % 2 ^ 64 ≡ 2 ^ (s .args .n)
+size-is s = shifted 64 (s .args .n) (omega (arith, s .pre .0 .few))
 
-scan-pairs-requires : tie.Need-scan-pairs-requires
-scan-pairs-requires c κs =
-    let front : tie.After-part = search in
-    let m : tie.After-enough = search in
+gather-requires : tie.Need-gather-requires
+gather-requires c κs =
+    let s : tie.Start = search in
+    let m = s .pre .0 in
+    ((sound-wires _ _ _ _ (m .few) (m .sound), omega (arith, size-is s, limits-suffice _ (m .few) .0)), refl)
+
+scan-requires : tie.Need-scan-requires
+scan-requires c κs =
+    let p : tie.After-part = search in
     let g : tie.After-gather = search in
     let t : tie.After-products = search in
-    let s : tie.Start = search in (
+    let s : tie.Start = search in
+    let m = s .pre .0 in
+    let gathered = rw (size-is s) at (g .gather .ensures) in (
       t .products .ensures,
-      (enough-members (s .pre .0) (g .gather .ensures) (m .enough .ensures) _ (front .part .ensures), s .pre .1),
+      ((gathered-members (m .few) (m .sound) gathered (p .part .ensures), m .some, m .few), s .pre .1),
     )
 
 returns : tie.Need-returns
 returns c =
-    let r : tie.After-scan-pairs = search in
-    let front : tie.After-part = search in
-    let m : tie.After-enough = search in
-    let g : tie.After-gather = search in
+    let r : tie.After-scan = search in
     let s : tie.Start = search in
-    enough-search (s .pre .0) (g .gather .ensures) (m .enough .ensures) _ (front .part .ensures) (now (s .args .cells)) _
-    (r .scan-pairs .result) (r .scan-pairs .ensures)
+    let m = s .pre .0 in
+    scanned-searched (m .few) (m .sound) _ _ (r .scan .result) (r .scan .ensures)
 
 pub search-spec : {M : Type 1} → statement M
 search-spec =
     tie.close
     (tie.spec
     (λ c κs. search needs)
-    (λ c κs. search needs)
-    (λ c κs. search needs)
     (λ c. search needs)
-    part-requires
-    scan-pairs-requires
+    gather-requires
+    (λ c. search needs)
+    (λ c κs. search needs)
+    scan-requires
     (λ c. search needs)
     returns)

@@ -5,7 +5,8 @@ use native.Mathlib.Omega.{arith}
 use lib.ListN.{length}
 use borrow.Author.Needs.{needs}
 use Rattle.circuit.specs.OddSet.{Member}
-use Rattle.carry.proofs.Deciding.{Passed, answer-no, answer-yes, denied, granted, passed-all, passed-more, passed-none}
+use Rattle.moves.proofs.Answers.{answer-no, answer-yes, denied, granted}
+use Rattle.carry.proofs.Deciding.{Passed, passed-all, passed-more, passed-none}
 use Rattle.carry.proofs.legality.are_members.Statement.{statement}
 use Rattle.carry.proofs.legality.are_members.Tie as tie
 

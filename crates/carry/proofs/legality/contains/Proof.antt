@@ -4,7 +4,8 @@ use Prim.Native.Nat.{_-_, _≤_}
 use native.Mathlib.Omega.{arith}
 use lib.ListN.{length}
 use borrow.Author.Needs.{needs}
-use Rattle.carry.proofs.Deciding.{Passed, answer-no, answer-yes, passed-more, passed-none}
+use Rattle.moves.proofs.Answers.{answer-no, answer-yes}
+use Rattle.carry.proofs.Deciding.{Passed, passed-more, passed-none}
 use Rattle.carry.proofs.legality.contains.Statement.{statement}
 use Rattle.carry.proofs.legality.contains.Tie as tie
 

@@ -1,7 +1,7 @@
 -- The length, the number in Y, and the rest.
 use native.Mathlib.Omega.{arith}
 use borrow.Author.Needs.{needs}
-use Rattle.carry.proofs.Deciding.{answer-no, decides-as}
+use Rattle.moves.proofs.Answers.{answer-no, decides-as}
 use Rattle.carry.proofs.legality.has_form.Statement.{statement}
 use Rattle.carry.proofs.legality.has_form.Tie as tie
 

@@ -5,7 +5,8 @@ use lib.ListN.{getD, length}
 use borrow.Author.Count.{below-more}
 use borrow.Author.Needs.{needs}
 use denote.Ref.{now}
-use Rattle.carry.proofs.Deciding.{answer-no, answer-yes, ascending-all, not-ascending}
+use Rattle.moves.proofs.Answers.{answer-no, answer-yes}
+use Rattle.carry.proofs.Deciding.{ascending-all, not-ascending}
 use Rattle.carry.proofs.legality.is_ascending.Statement.{statement}
 use Rattle.carry.proofs.legality.is_ascending.Tie as tie
 

@@ -3,7 +3,7 @@ use borrow.Author.Needs.{needs}
 use denote.Ref.{now}
 use Rattle.circuit.specs.Limits.{maxWires}
 use Rattle.carry.proofs.Conditions.{members-below, separates-below, separates-some}
-use Rattle.carry.proofs.Deciding.{answer-no, decides-as, denied, granted}
+use Rattle.moves.proofs.Answers.{answer-no, decides-as, denied, granted}
 use Rattle.carry.proofs.legality.is_legal.Statement.{statement}
 use Rattle.carry.proofs.legality.is_legal.Tie as tie
 

@@ -4,7 +4,7 @@ use lib.ListN.{getD}
 use borrow.Author.Needs.{needs}
 use denote.Ref.{now}
 use Rattle.carry.proofs.Conditions.{member-inside}
-use Rattle.carry.proofs.Deciding.{answer-no, decides-equal}
+use Rattle.moves.proofs.Answers.{answer-no, decides-equal}
 use Rattle.carry.proofs.legality.is_member.Statement.{statement}
 use Rattle.carry.proofs.legality.is_member.Tie as tie
 

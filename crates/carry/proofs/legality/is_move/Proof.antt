@@ -5,7 +5,7 @@ use denote.Ref.{now}
 use Rattle.circuit.specs.Limits.{maxMembers, maxWires}
 use Rattle.moves.proofs.Logs.{cells-checked}
 use Rattle.carry.proofs.Conditions.{move-if-legal, set-few}
-use Rattle.carry.proofs.Deciding.{answer-no, denied, granted}
+use Rattle.moves.proofs.Answers.{answer-no, denied, granted}
 use Rattle.carry.proofs.legality.is_move.Statement.{statement}
 use Rattle.carry.proofs.legality.is_move.Tie as tie
 

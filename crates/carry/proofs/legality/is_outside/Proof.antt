@@ -1,6 +1,6 @@
 -- A member, and none of Y.
 use borrow.Author.Needs.{needs}
-use Rattle.carry.proofs.Deciding.{answer-no, decides-as, decides-not, denied, granted}
+use Rattle.moves.proofs.Answers.{answer-no, decides-as, decides-not, denied, granted}
 use Rattle.carry.proofs.legality.is_outside.Statement.{statement}
 use Rattle.carry.proofs.legality.is_outside.Tie as tie
 

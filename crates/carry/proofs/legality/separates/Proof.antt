@@ -4,7 +4,8 @@ use native.Mathlib.Omega.{arith}
 use lib.Bits.{bitXor}
 use lib.ListN.{length}
 use borrow.Author.Needs.{needs}
-use Rattle.carry.proofs.Deciding.{Passed, answer-no, answer-yes, passed-more, passed-none, separates-found, separates-none}
+use Rattle.moves.proofs.Answers.{answer-no, answer-yes}
+use Rattle.carry.proofs.Deciding.{Passed, passed-more, passed-none, separates-found, separates-none}
 use Rattle.carry.specs.Decides.{Outside}
 use Rattle.carry.proofs.legality.separates.Statement.{statement}
 use Rattle.carry.proofs.legality.separates.Tie as tie

@@ -6,7 +6,7 @@ use lib.ListN.{getD, length}
 use borrow.Author.Count.{below-more}
 use borrow.Author.Needs.{needs}
 use denote.Ref.{now}
-use Rattle.carry.proofs.Deciding.{answer-no, answer-yes}
+use Rattle.moves.proofs.Answers.{answer-no, answer-yes}
 use Rattle.carry.proofs.legality.zero_from.Statement.{statement}
 use Rattle.carry.proofs.legality.zero_from.Tie as tie
 

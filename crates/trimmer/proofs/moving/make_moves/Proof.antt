@@ -7,7 +7,7 @@ use borrow.Author.Needs.{needs}
 use denote.Ref.{now}
 use Rattle.circuit.specs.OddSet.{memberCount}
 use Rattle.circuit.specs.TableFaults.{Marked}
-use Rattle.trimmer.proofs.Calls.{next-legal, next-none}
+use Rattle.trimmer.proofs.Calls.{next-found, next-none}
 use Rattle.trimmer.proofs.Making.{Turn, cells-long, few-moves, made-more, made-none, move-room, move-smaller, still-marked}
 use Rattle.trimmer.specs.Steps.{Made, NextMove}
 use Rattle.trimmer.proofs.moving.make_moves.Statement.{statement}
@@ -54,19 +54,19 @@ slice-aggregate-put-parities : tie.Need-slice-aggregate-put-parities Inv-loop μ
 slice-aggregate-put-parities c =
     let some : Some = search in
     let at : tie.At-loop Inv-loop μ-loop = search in
-    sym (cells-long (at .loop .inv .0) (next-legal (some .enum-told2 .given .1) (at .loop .inv .1)))
+    sym (cells-long (at .loop .inv .0) (next-found (some .enum-told2 .given .1) (at .loop .inv .1)))
 
 mul-put-parities : tie.Need-mul-put-parities Inv-loop μ-loop
 mul-put-parities c =
     let some : Some = search in
     let at : tie.At-loop Inv-loop μ-loop = search in
-    record { fits = omega (arith, few-moves (at .loop .inv .0) (next-legal (some .enum-told2 .given .1) (at .loop .inv .1))) }
+    record { fits = omega (arith, few-moves (at .loop .inv .0) (next-found (some .enum-told2 .given .1) (at .loop .inv .1))) }
 
 put-parities-requires : tie.Need-put-parities-requires Inv-loop μ-loop
 put-parities-requires c κs =
     let some : Some = search in
     let at : tie.At-loop Inv-loop μ-loop = search in
-    let f = next-legal (some .enum-told2 .given .1) (at .loop .inv .1) in
+    let f = next-found (some .enum-told2 .given .1) (at .loop .inv .1) in
     omega (arith, move-room (at .loop .inv .0) f, cells-long (at .loop .inv .0) f)
 
 make-move-requires : tie.Need-make-move-requires Inv-loop μ-loop
@@ -78,7 +78,7 @@ make-move-requires c κs =
       marked = still-marked (at .loop .inv .0);
       next = at .loop .inv .1;
       is-found = e;
-      counted = few-moves (at .loop .inv .0) (next-legal e (at .loop .inv .1));
+      counted = few-moves (at .loop .inv .0) (next-found e (at .loop .inv .1));
     }
 
 loop-less : tie.Need-loop-less Inv-loop μ-loop
@@ -86,7 +86,7 @@ loop-less c =
     let step : tie.After-make-move Inv-loop μ-loop = search in
     let some : Some = search in
     let at : tie.At-loop Inv-loop μ-loop = search in
-    move-smaller (at .loop .inv .0) (next-legal (some .enum-told2 .given .1) (at .loop .inv .1)) (step .make-move .ensures .marks-left)
+    move-smaller (at .loop .inv .0) (next-found (some .enum-told2 .given .1) (at .loop .inv .1)) (step .make-move .ensures .marks-left)
 
 loop-again : tie.Need-loop-again Inv-loop μ-loop
 loop-again c =
@@ -100,7 +100,7 @@ loop-again c =
         first = turn .first;
         room = turn .room;
         made =
-            made-more turn (next-legal (some .enum-told2 .given .1) (at .loop .inv .1)) (t .one-more) (t .marks-left)
+            made-more turn (next-found (some .enum-told2 .given .1) (at .loop .inv .1)) (t .one-more) (t .marks-left)
             (put .put-parities .ensures);
       },
       t .next,

@@ -1,0 +1,200 @@
+-- The columns of one z asked in turn: what one that offers nothing leaves, what one that offers a set gives, and what holds when all were
+-- asked.
+use mathlib.Core.List.{List}
+use mathlib.Core.Logic.{_≢_, _⊎_, inl, inr}
+use mathlib.Core.Path.{_∙_, _≡_, ap, subst, sym}
+use Prim.Native.Nat.{_*_, _+_, _<_, _^_, _≤_, suc, ℕ}
+use native.Mathlib.Decide.{ℕ-discrete}
+use native.Mathlib.Nat.{le-refl}
+use native.Mathlib.Omega.{arith}
+use lib.Bits.{bitXor, xor-lt}
+use lib.Pow.{pow-mono}
+use lib.ListN.{getD, getD-replicate, length, length-replicate, replicate}
+use Rattle.circuit.specs.Limits.{maxMembers, maxWires, parities, productBits}
+use Rattle.circuit.specs.Sound.{SoundMarks}
+use Rattle.echelon.proofs.Slots.{opened-slots}
+use Rattle.echelon.specs.Slots.{Opens, Same, SlotMembers, Slots}
+use Rattle.gf2.proofs.Basis.{basis-had, basis-more, basis-none, basis-same, covers-none, covers-tags}
+use Rattle.gf2.proofs.Leading.{bit-top}
+use Rattle.gf2.proofs.Pairing.{xor-equal}
+use Rattle.gf2.specs.Bit.{bit}
+use Rattle.gf2.specs.Echelon.{Basis, Reached, Shape, byMembers}
+use Rattle.moves.proofs.Finding.{found, passed}
+use Rattle.moves.proofs.Keep.{member-lt}
+use Rattle.moves.proofs.Laws.{z-none}
+use Rattle.moves.proofs.Logs.{cells-say}
+use Rattle.moves.proofs.Pairs.{partner-back}
+use Rattle.moves.specs.Column.{column}
+use Rattle.moves.specs.Log.{SmallestCells}
+use Rattle.moves.specs.Move.{Legal, NoneBelow}
+use Rattle.moves.specs.Pair.{Stands, mended, pairTag}
+use Rattle.moves.specs.Sets.{listed}
+use Rattle.moves.specs.declared.Sought.{Sought}
+use Rattle.moves.specs.declared.Sought.the-variants.{Found, Nothing}
+use Rattle.finder.proofs.Turns.{had-all, had-last, had-new, had-none, had-stands, had-wider}
+use Rattle.finder.specs.Naming.{MoveOf, WritesMove, setWith, totalWith}
+use Rattle.finder.specs.OneZ.{Had, Members, NoneWith, Offered, Offers, Passed, ToAsk, TurnOf}
+use Rattle.finder.specs.Search.{Emptied}
+
+-- ---- the slots
+
+pub empty-shape : Shape productBits (replicate productBits 0)
+empty-shape = covers-none productBits (λ y. 0) (λ y. 0) (λ y. ⊥) (λ y p. p) .shape
+
+pub empty-slots : Slots (replicate productBits 0) (replicate productBits 0) (replicate productBits 0)
+empty-slots =
+    record {
+      shape = empty-shape;
+      by-long = long;
+      members = record { long = long; below = λ s l. rw (getD-replicate {A = ℕ} productBits s 0 0 (omega (arith, long))) (omega arith) };
+    }
+  where
+    long : length (replicate {A = ℕ} productBits 0) ≡ productBits
+    long = length-replicate {A = ℕ} productBits 0
+
+-- what stands beside the slots that did not change
+pub beside : {vec by member vec′ by′ member′ : List ℕ} → Slots vec by member → Same vec by member vec′ by′ member′
+    → (length by′ ≡ productBits) × SlotMembers member′
+beside h t = rw (t .by-is, t .member-is) (h .by-long, h .members)
+
+-- ---- one column
+
+-- v came down to 0, and the move was written or not
+pub offers-down : (marks : List ℕ) {a : ℕ} (b : ℕ) {v used m : ℕ} {vec by member vec′ by′ member′ : List ℕ} (cells cells′ : List ℕ) → a ≢ 0
+    → Reached vec v 0 used × Same vec by member vec′ by′ member′ → m ≡ byMembers by′ used productBits → (r : Sought)
+    → WritesMove marks (bitXor a b) a m member′ cells cells′ r → Offers marks a b v vec by member cells vec′ by′ member′ cells′ r
+offers-down marks {a} b {used = used} cells cells′ some t e Found w =
+    record { some = some; used = used; reached = t .0; move = rw (e, t .1 .by-is, t .1 .member-is) at w }
+offers-down marks {a} b {used = used} cells cells′ some t e Nothing w = (
+  w .0,
+  inr (inr (some, record { used = used; reached = t .0; none = rw (e, t .1 .by-is, t .1 .member-is) at (w .1) }, t .1)),
+)
+
+-- ---- the columns of one z
+
+-- m turns are to be asked, and those before i were: their columns are in the slots
+pub record Asked (marks ys : List ℕ) (z t m i : ℕ) (vec by member : List ℕ) : Type 0 where
+  pub slots : Slots vec by member
+  pub basis : 0 < m → Basis productBits (Had marks ys z t i) (column maxWires z t) (pairTag marks z) vec by member
+
+pub asked-start : {marks ys : List ℕ} {z t m : ℕ} {vec₀ vec by member : List ℕ} → Slots vec₀ by member → Emptied m vec
+    → Asked marks ys z t m 0 vec by member
+asked-start {marks} {ys} {z} {t} {m} {vec₀} {vec} {by} {member} slots e =
+    record {
+      slots = record { shape = e .shape; by-long = slots .by-long; members = slots .members };
+      basis =
+          λ some. rw (e .empty some)
+          (basis-none productBits (column maxWires z t) (pairTag marks z) (Had marks ys z t 0) by member (λ y h. omega (arith, h .1)));
+    }
+
+module _ {marks ys : List ℕ} {z t m i a b v : ℕ} {vec by member : List ℕ} (all : Members marks ys) (h : Asked marks ys z t m i vec by member)
+    (l : i < m) (T : TurnOf marks ys z t i a) (b-is : b ≡ bitXor a z) (v-is : v ≡ column maxWires z t a) where
+  z-is : bitXor a b ≡ z
+  z-is = ap (bitXor a) b-is ∙ partner-back a z
+
+  basis : Basis productBits (Had marks ys z t i) (column maxWires z t) (pairTag marks z) vec by member
+  basis = h .basis (omega arith)
+
+  a-stands : a ≢ 0 → Stands marks z t a
+  a-stands some = T .its some .stands
+
+  -- it offered nothing
+  pub asked-next : {vec′ by′ member′ : List ℕ} → Passed marks a b v vec by member vec′ by′ member′
+      → Asked marks ys z t m (i + 1) vec′ by′ member′
+  asked-next (inl (none, same)) =
+      rw (same .vec-is, same .by-is, same .member-is) (record {
+        slots = h .slots;
+        basis =
+            λ some. basis-same productBits (column maxWires z t) (pairTag marks z) (Had marks ys z t i) (Had marks ys z t (i + 1)) vec by
+            member had-wider basis (had-none T (all .sound) none);
+      })
+  asked-next (inr (inl (some, o))) =
+      record {
+        slots = opened-slots (h .slots) (member-lt parities maxWires marks (all .sound) a (a-stands some .member)) o;
+        basis =
+            λ asked. rw (o .slot .vec-is, o .by-is, o .member-is)
+            (basis-more productBits (column maxWires z t) (pairTag marks z) (Had marks ys z t i) (Had marks ys z t (i + 1)) vec by member
+            had-wider basis a (had-last T) (had-new T some) (o .slot .s) (o .slot .left) (o .slot .used) (h .slots .by-long)
+            (h .slots .members .long) (rw v-is at (o .slot .stopped)));
+      }
+  asked-next (inr (inr (some, u, same))) =
+      rw (same .vec-is, same .by-is, same .member-is) (record {
+        slots = h .slots;
+        basis =
+            λ asked. basis-had productBits (column maxWires z t) (pairTag marks z) (Had marks ys z t i) (Had marks ys z t (i + 1)) vec by
+            member had-wider basis a (had-last T)
+            (passed parities maxWires (le-refl _) marks (all .sound) z t productBits (Had marks ys z t i) had-stands vec by member basis
+            (h .slots .members .long) a (a-stands some) (u .used) (rw v-is at (u .reached)) (rw z-is at (u .none)));
+      })
+
+  -- it offered the set of a move, which is legal; and none below z is
+  pub offered-smallest : {cells : List ℕ} → t < maxWires → z < parities → bit z t ≡ 1 → NoneBelow maxMembers maxWires marks z
+      → Offered marks a b v vec by member cells → SmallestCells maxMembers maxWires marks cells
+  offered-smallest {cells} t-lt z-lt z-t below o =
+      record {
+        legal = record { z = z; Y = Y; is = move .is; legal = legal };
+        smallest = rw (cells-say maxMembers z Y cells (move .is) .0) below;
+      }
+    where
+      move : MoveOf marks z a (byMembers by (o .used) productBits) member cells
+      move = rw z-is at (o .move)
+
+      Y : List ℕ
+      Y = listed parities (λ p. getD (mended (totalWith a (byMembers by (o .used) productBits) member) z (move .y)
+          (setWith a (byMembers by (o .used) productBits) member)) p 0)
+
+      legal : Legal maxMembers maxWires marks z Y
+      legal =
+          found parities maxWires (le-refl _) marks (all .sound) z t productBits (Had marks ys z t i) had-stands vec by member basis
+          (h .slots .members .long) a (a-stands (o .some)) (o .used) (rw v-is at (o .reached)) maxMembers (omega arith) t-lt z-lt z-t
+          (move .y) (move .pair)
+
+-- ---- all columns of one z
+
+pub z-passed : {marks ys : List ℕ} {z t m : ℕ} {vec by member : List ℕ} → Members marks ys → t < maxWires → bit z t ≡ 1
+    → ToAsk marks ys z m → Asked marks ys z t m m vec by member → NoneWith marks z
+z-passed {marks} {ys} {z} {t} {m} {vec} all t-lt z-t ask h Y legal = go (ask .all)
+  where
+    some : 0 < length ys
+    some = let s = legal .separates in
+        let i = all .listed (s .a) (legal .marked (s .a) (s .a-in)) in omega (arith, i .1)
+
+    go : (m ≡ 2 * length ys) ⊎ NoneWith marks z → ⊥
+    go (inl e) =
+        z-none parities maxWires maxMembers (le-refl _) marks (all .sound) z t t-lt z-t
+        (λ W stand. covers-tags productBits (column maxWires z t) (pairTag marks z) (Had marks ys z t m) vec
+        (h .basis (omega (arith, some)) .covers) W (λ i l. rw e (had-all all (getD W i 0) (stand i l)))) Y legal
+    go (inr never) = never Y legal
+
+-- ---- all z with highest wire t
+
+-- the z of a legal move is not 0
+pub none-below-one : (most n : ℕ) (marks : List ℕ) → NoneBelow most n marks 1
+none-below-one most n marks z Y l = go (ℕ-discrete z 0)
+  where
+    go : Dec (z ≡ 0) → 1 ≤ z
+    go (yes e) =
+        let s = l .separates in
+        absurd (s .b-out (s .a-in .0, s .a-in .1, s .a-in .2 ∙ xor-equal (s .a) (s .b) (sym (s .z-is) ∙ e)))
+    go (no ne) = omega arith
+
+-- nor k, where none with k is legal
+pub none-below-more : {marks : List ℕ} (k : ℕ) → NoneBelow maxMembers maxWires marks k → NoneWith marks k
+    → NoneBelow maxMembers maxWires marks (k + 1)
+none-below-more k below none z Y l = go (ℕ-discrete z k)
+  where
+    go : Dec (z ≡ k) → k + 1 ≤ z
+    go (yes e) = absurd (none Y (rw e at l))
+    go (no ne) = omega (arith, below z Y l)
+
+-- z is a parity, and names t
+pub record HighestWire (t z : ℕ) : Type 0 where
+  pub below : z < parities
+  pub names : bit z t ≡ 1
+
+pub highest-wire : (t z : ℕ) → t < maxWires → 2 ^ t ≤ z → z < 2 ^ t + 2 ^ t → HighestWire t z
+highest-wire t z l lo hi =
+    record {
+      below = omega (arith, pow-mono {i = suc t} {j = maxWires} l);
+      names = bit-top t z lo (omega arith);
+    }

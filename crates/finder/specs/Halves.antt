@@ -1,0 +1,17 @@
+-- What is said of the columns for a wire t, whatever the z with this wire.
+use mathlib.Core.List.{List}
+use mathlib.Core.Path.{_≡_}
+use Prim.Native.Nat.{ℕ}
+use Rattle.circuit.specs.Limits.{maxWires, productBits}
+use Rattle.gf2.specs.Bit.{bit}
+use Rattle.gf2.specs.Echelon.{Covers}
+use Rattle.moves.specs.Column.{column}
+use Rattle.moves.specs.Sets.{In}
+
+-- y is one of the members without wire t
+abbrev pub Without : List ℕ → ℕ → ℕ → Type 0
+Without ys t y = In y ys × (bit y t ≡ 0)
+
+-- their columns, which no z changes, are in the slots, and each opened one: so they are covered whatever the tags
+abbrev pub HalfApart : List ℕ → ℕ → List ℕ → Type 0
+HalfApart ys t vec = (z : ℕ) (τ : ℕ → ℕ) → Covers productBits (Without ys t) (column maxWires z t) τ vec

@@ -1,0 +1,134 @@
+// Whether the columns for a z depend on each other at all: looked for before what is needed to name a set. The columns of the members
+// without wire t are the same for all z with that wire, so they are eliminated once for those whose highest wire it is.
+ghost use mathlib.Core.Bool.{true};
+ghost use mathlib.Core.Path.{_≡_};
+ghost use Prim.Native.Nat.{_<_};
+ghost use Rattle.circuit.specs.Limits.{maxWires, parities};
+ghost use Rattle.columns.specs.Table.{ProductTable};
+ghost use Rattle.gf2.specs.Bit.{bit};
+ghost use Rattle.gf2.specs.Over.{Below};
+ghost use Rattle.moves.specs.Answer.{Decides};
+ghost use Rattle.finder.specs.Halves.{HalfApart};
+ghost use Rattle.finder.specs.OneZ.{HasPair, Members, NoneWith, ToAsk};
+use circuit::cells::cell_at;
+use circuit::limits::Mark;
+use circuit::limits::PARITIES;
+use circuit::limits::PRODUCT_BITS;
+use circuit::limits::Parity;
+use columns::table::product;
+use echelon::grow;
+use moves::marks::mark_at;
+
+// The slots of the columns of the members without wire t, and whether it is known that none depends on the others.
+pub struct Half {
+    pub apart: bool,
+    pub vec: [u64; PRODUCT_BITS],
+}
+
+// Eliminates the members without wire t. Where there are more than `most` members it looks at none: so many columns depend on each other.
+pub fn half_of(products: &[u64; PARITIES], ys: &[Parity], t: usize, most: usize) -> Half
+    requires { ⌜ ProductTable (now products) ⌝ }
+    requires { ⌜ Below parities (now ys) × (t < maxWires) ⌝ }
+    ensures { λ r. ⌜ (r .apart ≡ true → HalfApart (now (ys .entry)) t (r .vec)) ⌝ }
+{
+    let mut vec = [0u64; PRODUCT_BITS];
+    if ys.len() > most {
+        return Half {
+            apart: false,
+            vec: vec,
+        };
+    }
+    let mut i: usize = 0;
+    while i < ys.len() {
+        let y = cell_at(ys, i);
+        i += 1;
+        if (y >> t) % 2 == 0 {
+            if !grow(product(products, y), &mut vec) {
+                return Half {
+                    apart: false,
+                    vec: vec,
+                };
+            }
+        }
+    }
+    Half {
+        apart: true,
+        vec: vec,
+    }
+}
+
+// True only where all columns for z are apart, so that no move with z is legal: those of the singles with wire t go in after the half
+// without it, which has the columns of the pairs too.
+fn all_apart(
+    products: &[u64; PARITIES],
+    marks: &[Mark],
+    ys: &[Parity],
+    z: Parity,
+    t: usize,
+    half: [u64; PRODUCT_BITS],
+) -> bool
+    requires { ⌜ ProductTable (now products) ⌝ }
+    requires { ⌜ Members (now marks) (now ys) ⌝ }
+    requires { ⌜ (t < maxWires) × (z < parities) × (bit z t ≡ 1) ⌝ }
+    requires { ⌜ HalfApart (now ys) t half ⌝ }
+    ensures { λ r. ⌜ (r ≡ true → NoneWith (now (marks .entry)) z) ⌝ }
+{
+    let mut vec = half;
+    let mut i: usize = 0;
+    while i < ys.len() {
+        let y = cell_at(ys, i);
+        i += 1;
+        if (y >> t) % 2 == 1 {
+            if mark_at(marks, y ^ z) == 0 {
+                if !grow(product(products, y ^ z), &mut vec) {
+                    return false;
+                }
+            }
+        }
+    }
+    true
+}
+
+// Whether z is the xor of two members.
+fn has_pair(marks: &[Mark], ys: &[Parity], z: Parity) -> bool
+    requires { ⌜ Members (now marks) (now ys) × (z < parities) ⌝ }
+    ensures { λ r. ⌜ Decides r (HasPair (now (marks .entry)) z) ⌝ }
+{
+    let mut i: usize = 0;
+    while i < ys.len() {
+        if mark_at(marks, cell_at(ys, i) ^ z) == 1 {
+            return true;
+        }
+        i += 1;
+    }
+    false
+}
+
+// How many turns there are: two for each member; or none, where z is no xor of two, or all columns are apart.
+pub fn to_ask(
+    products: &[u64; PARITIES],
+    marks: &[Mark],
+    ys: &[Parity],
+    z: Parity,
+    t: usize,
+    half: Half,
+) -> usize
+    requires { ⌜ ProductTable (now products) ⌝ }
+    requires { ⌜ Members (now marks) (now ys) ⌝ }
+    requires { ⌜ (t < maxWires) × (z < parities) × (bit z t ≡ 1) ⌝ }
+    requires { ⌜ (half .apart ≡ true → HalfApart (now ys) t (half .vec)) ⌝ }
+    ensures { λ r. ⌜ ToAsk (now (marks .entry)) (now (ys .entry)) z r ⌝ }
+{
+    if !has_pair(marks, ys, z) {
+        return 0;
+    }
+    let apart = half.apart;
+    if !apart {
+        return 2 * ys.len();
+    }
+    let vec = half.vec;
+    if all_apart(products, marks, ys, z, t, vec) {
+        return 0;
+    }
+    2 * ys.len()
+}

@@ -1,3 +1,0 @@
-pub mod Others
-pub mod SetsNamed
-pub mod Answered

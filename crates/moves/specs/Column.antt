@@ -1,0 +1,14 @@
+-- The column of a parity y for one z, in which the finder eliminates: for n wires, with t a wire of z.
+-- It is a device of ours, and no part of document 01.
+use Prim.Native.Nat.{_*_, ℕ}
+use lib.Bits.{bitXor}
+use Rattle.gf2.specs.Bit.{bit}
+use Rattle.moves.specs.Product.{product}
+
+-- of y and y XOR z the one without wire t
+unfoldable pub bar : ℕ → ℕ → ℕ → ℕ
+bar z t y = bitXor y (bit y t * z)
+
+-- its product entry: y and y XOR z have the same
+unfoldable pub column : ℕ → ℕ → ℕ → ℕ → ℕ
+column n z t y = product n (bar z t y)
