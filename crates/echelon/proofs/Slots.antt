@@ -49,12 +49,16 @@ module _ {vec : List ℕ} {left s : ℕ} (shape : Shape productBits vec) (b : Le
   pub falls : getD vec s 0 ≢ 0 → bitXor left (getD vec s 0) < left
   falls ne = omega (arith, step-lt productBits vec shape s left (b .slot) (b .hi) (b .lo) ne, b .lo)
 
-  -- and the slot is among those used, as the machine shifts its bit
+  -- and the slot is among those used
+  pub taken : {v used : ℕ} → getD vec s 0 ≢ 0 → Reached vec v left used → Reached vec v (bitXor left (getD vec s 0)) (bitXor used (2 ^ s))
+  taken {v} {used} ne r = reached-step vec productBits v left used s shape (b .slot) (b .lo) (b .hi) ne r
+
+  -- as the machine shifts its bit
   pub takes : {v used : ℕ} → getD vec s 0 ≢ 0 → Reached vec v left used
       → Reached vec v (bitXor left (getD vec s 0)) (bitXor used (1 * 2 ^ s % 2 ^ 64))
   takes {v} {used} ne r =
       let own : 1 * 2 ^ s % 2 ^ 64 ≡ 2 ^ s = shifted 64 s (omega (arith, b .slot)) in
-      rw own (reached-step vec productBits v left used s shape (b .slot) (b .lo) (b .hi) ne r)
+      rw own (taken ne r)
 
 -- ---- a column goes in
 

@@ -88,17 +88,16 @@ pub fn grow(v: u64, vec: &mut [u64; PRODUCT_BITS]) -> bool
     requires { ⌜ v < 2 ^ productBits ⌝ }
     ensures { λ r. ⌜ Grows v (now (vec .entry)) (now (vec .exit)) r ⌝ }
 {
-    match reduce(vec, v) {
-        Reduced::Dependent { used: _ } => false,
-        Reduced::Independent {
-            slot,
-            left,
-            used: _,
-        } => {
-            vec[slot] = left;
-            true
+    let mut left = v;
+    while left != 0 {
+        let s = leading(left);
+        if vec[s] == 0 {
+            vec[s] = left;
+            return true;
         }
+        left = left ^ vec[s];
     }
+    false
 }
 
 // From a mask of slots to one of members: a slot stands for the member that opened it and for the slots taken off that one's column, which

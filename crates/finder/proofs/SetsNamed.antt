@@ -3,16 +3,16 @@ use mathlib.Core.List.{List}
 use mathlib.Core.Logic.{_≢_}
 use mathlib.Core.Path.{_∙_, _≡_, ap, ap₂, refl, subst, sym}
 use Prim.Native.Nat.{_%_, _*_, _+_, _/_, _<_, _^_, _≤_, suc, zero, ℕ}
-use native.Mathlib.Decide.{decLt, ℕ-discrete}
+use native.Mathlib.Decide.{ℕ-discrete}
 use native.Mathlib.Nat.{one-mul, zero-mul}
 use native.Mathlib.Numerals.{add-one}
 use native.Mathlib.Omega.{arith}
 use lib.Bits.{bitXor, xor-lt, xor-zero-r}
-use lib.ListN.{List·getD-eq-default, getD, length, length-set, replicate, set}
+use lib.ListN.{getD, length, length-set, replicate, set}
+use lib.Seq.{getD-set-other}
 use Rattle.circuit.proofs.OddSet.{members-sum}
 use Rattle.circuit.specs.Limits.{maxMembers, maxWires, moveCells, moveHead, parities, productBits, tableBytes}
 use Rattle.circuit.specs.OddSet.{memberCount}
-use Rattle.circuit.specs.Sound.{weight}
 use Rattle.echelon.specs.Slots.{SlotMembers}
 use Rattle.gf2.proofs.Combination.{combine-whole}
 use Rattle.gf2.proofs.Selection.{combine-first, combine-next}
@@ -22,7 +22,7 @@ use Rattle.gf2.specs.Sum.{sum}
 use Rattle.moves.proofs.Flips.{flip-bits}
 use Rattle.moves.proofs.Logs.{cells-count, cells-more, cells-none}
 use Rattle.moves.proofs.Sets.{listed-length, listed-off, listed-on, listed-room}
-use Rattle.moves.proofs.Naming.{Room, flipped-few, flipped-off, named-bits, named-few, named-length, named-off, named-on}
+use Rattle.moves.proofs.Naming.{Room, flipped-few, flipped-off, named-bits, named-few, named-from, named-length, named-off, named-on}
 use Rattle.moves.specs.CarryOut.{flip}
 use Rattle.moves.specs.Log.{asCells}
 use Rattle.moves.specs.Pair.{PairIn, mended, named}
@@ -156,38 +156,46 @@ module _ {set : List ℕ} (h : Few set) (z y : ℕ) (z-fits : z < parities) (y-f
 
 -- ---- the search for one of a pair
 
--- none of the first p numbers
-abbrev pub NoneTo : List ℕ → ℕ → List ℕ → ℕ → Type 0
-NoneTo marks z set p = (y : ℕ) → y < p → PairIn marks z set y → ⊥
+-- it is none of the members of the first k slots that m names
+abbrev pub NoneTo : List ℕ → ℕ → List ℕ → ℕ → List ℕ → ℕ → Type 0
+NoneTo marks z set m member k = (j : ℕ) → j < k → bit m j ≡ 1 → PairIn marks z set (getD member j 0) → ⊥
 
-module _ {marks set : List ℕ} {z : ℕ} where
-  pub pair-found : {y r : ℕ} → y < length set → getD set y 0 ≡ 1 → r ≡ weight marks (bitXor y z) → r ≡ 1 → PairAt marks z set y
-  pair-found l on is one =
-      record { some = λ h. record { on = on; partner = sym is ∙ one }; none = λ h. absurd (omega arith) }
+pub pair-found : {marks set : List ℕ} {z y : ℕ} → length set ≡ tableBytes → y < parities → PairIn marks z set y → PairAt marks z set y
+pair-found long l p = record { some = λ h. p; none = λ h. absurd (omega arith) }
 
-  next : {p : ℕ} → NoneTo marks z set p → (PairIn marks z set p → ⊥) → NoneTo marks z set (p + 1)
-  next {p} none here y l q = go (ℕ-discrete y p)
+module _ (marks set : List ℕ) (z m : ℕ) (member : List ℕ) {k : ℕ} (none : NoneTo marks z set m member k) where
+  next : (bit m k ≡ 1 → PairIn marks z set (getD member k 0) → ⊥) → NoneTo marks z set m member (k + 1)
+  next here j l e q = go (ℕ-discrete j k)
     where
-      go : Dec (y ≡ p) → ⊥
-      go (yes e) = here (rw e at q)
-      go (no ne) = none y (omega arith) q
+      go : Dec (j ≡ k) → ⊥
+      go (yes d) = here (rw d at e) (rw d at q)
+      go (no ne) = none j (omega arith) e q
 
-  -- p is in the set, and its partner is no member
-  pub none-lone : {p r : ℕ} → NoneTo marks z set p → r ≡ weight marks (bitXor p z) → r ≢ 1 → NoneTo marks z set (p + 1)
-  none-lone none is ne = next none (λ q. ne (is ∙ q .partner))
+  -- the member of slot k is none
+  pub none-lone : {y : ℕ} → y ≡ getD member k 0 → (PairIn marks z set y → ⊥) → NoneTo marks z set m member (k + 1)
+  none-lone is never = next (λ e q. never (rw is q))
 
-  -- it is not
-  pub none-off : {p : ℕ} → NoneTo marks z set p → getD set p 0 ≢ 1 → NoneTo marks z set (p + 1)
-  none-off none off = next none (λ q. off (q .on))
+  -- m does not name the slot
+  pub none-unnamed : m / 2 ^ k % 2 ≢ 1 → NoneTo marks z set m member (k + 1)
+  unfolding bit
+  none-unnamed ne = next (λ e. absurd (ne e))
 
-  -- none at all
-  pub pair-none : {p : ℕ} → NoneTo marks z set p → length set ≤ p → PairAt marks z set (length set)
-  pair-none none all =
-      record { some = λ h. absurd (omega arith); none = λ h y q. go y q (decLt y (length set)) }
-    where
-      go : (y : ℕ) → PairIn marks z set y → Dec (y < length set) → ⊥
-      go y q (yes l) = none y (omega arith) q
-      go y q (no l) = let past : length set ≤ y = omega arith in omega (arith, q .on, List·getD-eq-default set 0 past)
+-- none of the slots' members, nor a: none at all
+pub pair-none : (marks : List ℕ) (z : ℕ) {set member : List ℕ} {a m k : ℕ} → SetNamed a m member set → (PairIn marks z set a → ⊥)
+    → NoneTo marks z set m member k → productBits ≤ k → PairAt marks z set tableBytes
+pair-none marks z {set} {member} {a} {m} {k} w a-none none all =
+    record { some = λ h. absurd (omega (arith, w .small .long)); none = λ h y q. go y q (ℕ-discrete y a) }
+  where
+    w₀ : List ℕ
+    w₀ = named parities member m productBits
+
+    go : (y : ℕ) → PairIn marks z set y → Dec (y ≡ a) → ⊥
+    go y q (yes e) = a-none (rw e at q)
+    go y q (no ne) =
+        let on : getD (setWith a m member) y 0 ≡ 1 = ap (λ (u : List ℕ). getD u y 0) (sym (w .is)) ∙ q .on in
+        let f = named-from parities member m productBits y
+            (λ e. omega (arith, on, getD-set-other w₀ a y ((getD w₀ a 0 + 1) % 2) 0 ne)) in
+        none (f .0) (omega (arith, f .1)) (f .2) (rw (f .3) q)
 
 -- ---- the set named, searched and mended
 

@@ -4,7 +4,8 @@ ghost use Prim.Native.Nat.{_<_};
 ghost use lib.ListN.{length};
 ghost use Rattle.circuit.specs.Limits.{moveCells, parities, tableBytes};
 ghost use Rattle.echelon.specs.Slots.{SlotMembers};
-ghost use Rattle.moves.specs.Pair.{mended};
+ghost use Rattle.moves.specs.Answer.{Decides};
+ghost use Rattle.moves.specs.Pair.{PairIn, mended};
 ghost use Rattle.finder.specs.Naming.{Few, PairAt, SetNamed, WritesMove, listedCells, totalWith};
 use circuit::cells::cell_at;
 use circuit::cells::put_cell;
@@ -16,6 +17,7 @@ use circuit::limits::MoveCell;
 use circuit::limits::PRODUCT_BITS;
 use circuit::limits::Parity;
 use circuit::limits::TABLE_BYTES;
+use circuit::parity::index_of;
 use moves::Sought;
 use moves::marks::flip_mark;
 use moves::marks::mark_at;
@@ -34,7 +36,7 @@ pub fn write_move(
     ensures { λ r. ⌜ WritesMove (now (marks .entry)) z a m (now (member .entry)) (now (cells .entry)) (now (cells .exit)) r ⌝ }
 {
     let mut set = set_named(m, a, member);
-    let y = pair_at(marks, z, &set);
+    let y = pair_at(marks, z, a, m, member, &set);
     if y >= TABLE_BYTES {
         return Sought::Nothing;
     }
@@ -80,22 +82,45 @@ fn total_named(m: u64, a: Parity, member: &[Parity; PRODUCT_BITS]) -> Parity
     x ^ a
 }
 
-// The first of the set that is one of a pair.
-fn pair_at(marks: &[Mark], z: Parity, set: &[Mark]) -> usize
-    requires { ⌜ (length (now marks) ≡ tableBytes) × (length (now set) ≡ tableBytes) × (z < parities) ⌝ }
+// Some y of the set that is one of a pair: a, or a member of a slot in the mask. Where there is none, the number of parities.
+fn pair_at(
+    marks: &[Mark],
+    z: Parity,
+    a: Parity,
+    m: u64,
+    member: &[Parity; PRODUCT_BITS],
+    set: &[Mark],
+) -> usize
+    requires { ⌜ (length (now marks) ≡ tableBytes) × (z < parities) × (a < parities) ⌝ }
+    requires { ⌜ SlotMembers (now member) × SetNamed a m (now member) (now set) ⌝ }
     ensures { λ r. ⌜ PairAt (now (marks .entry)) z (now (set .entry)) r ⌝ }
 {
-    let mut p: usize = 0;
-    while p < set.len() {
-        let y = p;
-        p += 1;
-        if set[y] == 1 {
-            if mark_at(marks, y as Parity ^ z) == 1 {
-                return y;
+    if is_pair(marks, z, set, a) {
+        return index_of(a);
+    }
+    let mut s: usize = 0;
+    while s < PRODUCT_BITS {
+        let k = s;
+        s += 1;
+        if (m >> k) % 2 == 1 {
+            let y = cell_at(member, k);
+            if is_pair(marks, z, set, y) {
+                return index_of(y);
             }
         }
     }
-    set.len()
+    TABLE_BYTES
+}
+
+// Whether y is in the set, and its partner is a member.
+fn is_pair(marks: &[Mark], z: Parity, set: &[Mark], y: Parity) -> bool
+    requires { ⌜ (length (now marks) ≡ tableBytes) × (length (now set) ≡ tableBytes) × (z < parities) × (y < parities) ⌝ }
+    ensures { λ r. ⌜ Decides r (PairIn (now (marks .entry)) z (now (set .entry)) y) ⌝ }
+{
+    if mark_at(set, y) != 1 {
+        return false;
+    }
+    mark_at(marks, y ^ z) == 1
 }
 
 // Where the xor of the set is not 0, an odd number of it names wire t: y gives place to its partner, and exactly one of the two does.

@@ -1,16 +1,20 @@
 -- One turn, and the end, of the loops that count.
 use mathlib.Core.List.{List}
 use mathlib.Core.Logic.{_≢_}
-use mathlib.Core.Path.{_≡_}
-use Prim.Native.Nat.{_*_, _+_, _/_, _<_, ℕ}
+use mathlib.Core.Path.{_∙_, _≡_, ap, sym}
+use Prim.Native.Nat.{_*_, _+_, _/_, _<_, _^_, ℕ}
 use native.Mathlib.Numerals.{add-one}
+use native.Mathlib.Omega.{arith}
 use lib.ListN.{getD, length}
 use Rattle.circuit.proofs.Bytes.{gates-step, gates-tail, gatesFrom}
 use Rattle.circuit.specs.Gate.{T, T-dagger, isT, tGates}
-use Rattle.circuit.specs.Limits.{gateBytes}
+use Rattle.circuit.specs.Limits.{gateBytes, parities}
 use Rattle.circuit.specs.OddSet.{memberCount}
+use Rattle.circuit.specs.TableFaults.{Marked}
+use Rattle.gf2.proofs.Pairing.{sum-stop}
 use Rattle.gf2.proofs.Sum.{delta-other, sum-suc}
 use Rattle.gf2.specs.Sum.{delta, sum}
+use Rattle.moves.proofs.Laws.{limits-suffice}
 
 pub t-next : (bytes : List ℕ) (i : ℕ) → gateBytes * i + 2 < length bytes
     → tGates (gatesFrom bytes i) ≡ isT (getD bytes (gateBytes * i) 0) + tGates (gatesFrom bytes (i + 1))
@@ -29,7 +33,12 @@ pub members-next : (marks : List ℕ) (p count x : ℕ) → count ≡ sum p (λ 
     → count + x ≡ sum (p + 1) (λ p. delta 1 (getD marks p 0))
 members-next marks p count x e f = rw (add-one p, sum-suc p (λ p. delta 1 (getD marks p 0)), e, f)
 
-pub members-end : (marks : List ℕ) (p count : ℕ) → length marks ≡ p → count ≡ sum p (λ p. delta 1 (getD marks p 0))
+-- no mark from 2^n up
+pub members-end : {n : ℕ} {marks : List ℕ} {count : ℕ} → Marked n marks → count ≡ sum (2 ^ n) (λ p. delta 1 (getD marks p 0))
     → count ≡ memberCount marks
 unfolding memberCount
-members-end marks p count h e = rw (h, e)
+members-end {n} {marks} m e =
+    e
+    ∙ sym (ap (λ (k : ℕ). sum k (λ p. delta 1 (getD marks p 0))) (m .sound .long)
+    ∙ sum-stop (2 ^ n) parities (λ p. delta 1 (getD marks p 0)) (limits-suffice n (m .few) .0)
+    (λ p h. ap (delta 1) (m .sound .high p h) ∙ delta-other 1 0 (λ q. omega arith)))

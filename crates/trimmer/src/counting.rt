@@ -1,16 +1,14 @@
 // The counts of a trim: T and T dagger gates of a list, and members of an odd set.
 ghost use mathlib.Core.Path.{_≡_};
 ghost use Prim.Native.Nat.{_<_};
-ghost use lib.ListN.{length};
 ghost use Rattle.circuit.specs.Gate.{isT, tGates, gatesOf};
-ghost use Rattle.circuit.specs.Limits.{tableBytes};
 ghost use Rattle.circuit.specs.OddSet.{memberCount};
+ghost use Rattle.circuit.specs.TableFaults.{Marked};
 ghost use Rattle.gf2.specs.Sum.{delta};
 use circuit::gates::T;
 use circuit::gates::T_DAGGER;
 use circuit::limits::GATE_BYTES;
 use circuit::limits::Mark;
-use circuit::limits::PARITIES;
 use circuit::limits::TABLE_BYTES;
 
 // How many T and T dagger gates a list holds.
@@ -37,13 +35,13 @@ fn is_t(kind: u8) -> usize
     }
 }
 
-// How many members an odd set has: the parities marked 1.
-pub fn members_of(marks: &[Mark; TABLE_BYTES]) -> usize
-    requires { ⌜ length (now marks) ≡ tableBytes ⌝ }
+// How many members an odd set on n wires has: the parities marked 1. None is from 2^n up.
+pub fn members_of(n: usize, marks: &[Mark; TABLE_BYTES]) -> usize
+    requires { ⌜ Marked n (now marks) ⌝ }
     ensures { λ r. ⌜ r ≡ memberCount (now (marks .entry)) ⌝ }
 {
     let mut count: usize = 0;
-    for p in 0..PARITIES {
+    for p in 0..1 << n {
         count += is_member(marks[p]);
     }
     count

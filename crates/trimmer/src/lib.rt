@@ -64,8 +64,8 @@ fn trim_accepted(n: usize, gates: &[u8], out: &mut [u8], log: &mut [MoveCell]) -
     let new = weights_for(n, w, last);
     let count = write_list(n, new, rows, out);
     let tin = t_gates(gates);
-    let odd = members_of(&first);
-    let tout = members_of(&last);
+    let odd = members_of(n, &first);
+    let tout = members_of(n, &last);
     Counts {
         tin: tin,
         odd: odd,

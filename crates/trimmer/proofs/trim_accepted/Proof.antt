@@ -44,6 +44,17 @@ write-list-requires c κs =
       new-is = v .weights-for .ensures;
     })
 
+members-of-requires : tie.Need-members-of-requires
+members-of-requires c κs =
+    let o : tie.After-odd-marks = search in
+    marked-first (record { read = is-read (search); odd = o .odd-marks .ensures })
+
+members-of-requires-2 : tie.Need-members-of-requires-2
+members-of-requires-2 c κs =
+    let m : tie.After-make-moves = search in
+    let o : tie.After-odd-marks = search in
+    marked-last (record { marked = record { read = is-read (search); odd = o .odd-marks .ensures }; all = m .make-moves .ensures })
+
 returns : tie.Need-returns
 returns c =
     let last : tie.After-members-of2 = search in
@@ -70,8 +81,8 @@ trim-accepted-spec =
     weights-for-requires
     write-list-requires
     (λ c κs. search needs)
-    (λ c κs. search needs)
-    (λ c κs. search needs)
+    members-of-requires
+    members-of-requires-2
     (λ c. search needs)
     (λ c. search needs)
     returns)

@@ -1,44 +1,80 @@
 -- The members are counted.
-use mathlib.Core.Path.{refl, _≡_}
-use Prim.Native.Nat.{_-_, _≤_}
+use mathlib.Core.Path.{_≡_, refl}
+use Prim.Native.Nat.{_%_, _*_, _-_, _<_, _^_, _≤_}
 use native.Mathlib.Omega.{arith}
 use lib.ListN.{getD}
+use lib.Pow.{pow-mono}
 use borrow.Author.Needs.{needs}
 use denote.Ref.{now}
-use Rattle.circuit.specs.Limits.{parities}
+use Rattle.circuit.proofs.Steps.{shifted}
+use Rattle.circuit.specs.Limits.{maxWires, parities}
 use Rattle.gf2.specs.Sum.{delta, sum}
 use Rattle.trimmer.proofs.Counted.{members-end, members-next}
 use Rattle.trimmer.proofs.counting.members_of.Statement.{statement}
 use Rattle.trimmer.proofs.counting.members_of.Tie as tie
 
 abbrev Inv-loop : tie.InvT-loop
-Inv-loop marks count₀ p₀ count p = (p ≤ parities) × (count ≤ p) × (count ≡ sum p (λ p. delta 1 (getD marks p 0)))
+Inv-loop n marks count₀ p₀ p-end count p = (p ≤ p-end) × (count ≤ p) × (count ≡ sum p (λ p. delta 1 (getD marks p 0)))
 
 abbrev μ-loop : tie.MeasureT-loop
-μ-loop marks count₀ p₀ count p = parities - p
+μ-loop n marks count₀ p₀ p-end count p = p-end - p
+
+abbrev Head : Type 0
+Head = tie.At-loop Inv-loop μ-loop
+
+abbrev Entry : Type 0
+Entry = tie.Start Inv-loop μ-loop
+
+-- the parities of n wires, as the machine shifts
+end-is : (s : Entry) → 1 * 2 ^ (s .args .n) % 2 ^ 64 ≡ 2 ^ (s .args .n)
+end-is s = shifted 64 (s .args .n) (omega (arith, s .pre .few))
+
+abbrev entry : Head → Entry
+entry at = search
+
+-- a turn is at a parity
+below : (at : Head) → at .loop .p ≤ parities
+below at =
+    let s = entry at in
+    omega (arith, at .loop .inv .0, end-is s, pow-mono {i = s .args .n} {j = maxWires} (s .pre .few))
+
+shl-p-end : tie.Need-shl-p-end Inv-loop μ-loop
+shl-p-end c = let s : Entry = search in omega (arith, s .pre .few)
 
 loop-holds : tie.Need-loop-holds Inv-loop μ-loop
 unfolding sum
 loop-holds c = (search needs, search needs, refl)
 
+element-copy-out-is-member : tie.Need-element-copy-out-is-member Inv-loop μ-loop
+element-copy-out-is-member c =
+    let at : Head = search in
+    let s = entry at in
+    omega (arith, end-is s, pow-mono {i = s .args .n} {j = maxWires} (s .pre .few))
+
 add-count : tie.Need-add-count Inv-loop μ-loop
-add-count c = omega (arith, c .is-member .ensures .0, c .is-member .ensures .1)
+add-count c =
+    let at : Head = search in
+    record { fits = omega (arith, below at, at .loop .inv .1, c .is-member .ensures .1) }
+
+add-p : tie.Need-add-p Inv-loop μ-loop
+add-p c = let at : Head = search in record { fits = omega (arith, below at) }
 
 loop-again : tie.Need-loop-again Inv-loop μ-loop
 loop-again c =
-    let at : tie.At-loop Inv-loop μ-loop = search in
-    let s : tie.Start Inv-loop μ-loop = search in
-    let m = now (s .args .marks) in (
+    let r : tie.After-is-member Inv-loop μ-loop = search in
+    let at : Head = search in
+    let s = entry at in (
       search needs,
-      omega (arith, c .is-member .ensures .0, c .is-member .ensures .1),
-      members-next m (at .loop .p) (at .loop .count) (c .is-member .result) (at .loop .inv .2) (c .is-member .ensures .0),
+      omega (arith, at .loop .inv .1, r .is-member .ensures .1),
+      members-next (now (s .args .marks)) (at .loop .p) (at .loop .count) (r .is-member .result) (at .loop .inv .2) (r .is-member .ensures .0),
     )
 
 returns : tie.Need-returns Inv-loop μ-loop
 returns c =
-    let at : tie.At-loop Inv-loop μ-loop = search in
-    let start : tie.Start Inv-loop μ-loop = search in
-    members-end (now (start .args .marks)) (at .loop .p) (at .loop .count) (omega (arith, start .pre)) (at .loop .inv .2)
+    let at : Head = search in
+    let s = entry at in
+    let e : at .loop .p ≡ 2 ^ (s .args .n) = omega (arith, at .loop .inv .0, end-is s) in
+    members-end (s .pre) (rw e at (at .loop .inv .2))
 
 pub members-of-spec : {M : Type 1} → statement M
 members-of-spec =
@@ -46,11 +82,12 @@ members-of-spec =
     (tie.spec
     Inv-loop
     μ-loop
+    shl-p-end
     loop-holds
-    (λ c. search needs)
+    element-copy-out-is-member
     (λ c κs. search needs)
     add-count
-    (λ c. search needs)
+    add-p
     (λ c. search needs)
     loop-again
     returns)
