@@ -8,8 +8,9 @@
 //! - [`parity`], [`reading`]: the parity a wire holds, found by search; weights and rows.
 //! - [`odd_set`]: the odd set and the T count.
 //! - [`coefficients`], [`new_weights`]: signed sums over all parities; the even rest, found by trying its values.
-//! - [`moves`], [`existence`]: legality word for word; whether a legal move exists, by solving its conditions.
-//! - [`writing`], [`trimming`]: what must hold of a written list, and demand 3 of a trim.
+//! - [`moves`], [`existence`]: legality word for word; whether a legal move exists, and the smallest z, by solving its
+//!   conditions.
+//! - [`writing`], [`trimming`]: what must hold of a written list, and of a trim: demand 3 and the smallest z.
 //! - [`text`]: the text form, split at its newlines. [`printing`]: what the program prints for a text.
 //! - [`faults`]: the table of faults and the order of checks.
 //! - [`demands`]: what must hold of any answer, whatever made it.
@@ -17,7 +18,7 @@
 //! - [`lent`], [`comparison`]: lent buffers with guards around them; one call, held against the reference.
 //! - [`random`]: the generator and the random circuits, weights, odd sets and rows. [`texts`]: texts to try.
 //! - [`fast`], [`published`]: for the benchmark, a trimmer built for speed and the published search taken literally. The
-//!   first does share an idea with the proved code, so comparisons with the library take inputs from it at most.
+//!   first makes the proved code's own search, so comparisons with the library take inputs from it at most.
 //!
 //! The comparisons stand in `tests/`. With the library made by `rt staticlib capi` in the repository's root, run
 //! `cargo test --release --offline` here. Each group of C functions is compared once its feature is on: `weights`,

@@ -1,10 +1,10 @@
-//! Demand 3, part by part, of whatever a trim wrote.
+//! Demand 3, part by part, of whatever a trim wrote, and the smallest z of each logged move (document 02, 2.7).
 
 use crate::demands::{rows_are_sound, weights_are_sound};
 use crate::existence;
 use crate::faults;
 use crate::gates::GATE_BYTES;
-use crate::moves::{members, replay, MOVE_BYTES};
+use crate::moves::{carry_out, members, replay, Move, MOVE_BYTES};
 use crate::new_weights::{has_the_shape, new_weights};
 use crate::odd_set::{odd_set, size, t_count, Marks};
 use crate::reading;
@@ -23,13 +23,31 @@ pub struct Counts {
     pub gates: usize,
 }
 
-/// Holds D, the log and the counts of an accepted C against demand 3. `d` has all of D's gates and nothing else, `log`
-/// all of the logged moves and nothing else. Answers the first part that fails.
+/// Holds D, the log and the counts of an accepted C against demand 3, and each logged z to the smallest. `d` has all of
+/// D's gates and nothing else, `log` all of the logged moves and nothing else. Answers the first part that fails.
 pub fn check_trim(n: usize, c: &[u8], d: &[u8], log: &[u8], counts: &Counts) -> Result<(), String> {
+    let odd_from = check_demand_3(n, c, d, log, counts)?;
+    check_each_z(n, &odd_from, log)
+}
+
+/// Demand 3 alone, whichever legal moves are logged. Answers C's odd set, or the first part that fails.
+pub fn check_demand_3(n: usize, c: &[u8], d: &[u8], log: &[u8], counts: &Counts) -> Result<Marks, String> {
     let (odd_from, odd_to) = check_without_log(n, c, d, counts)?;
     let last = replay(n, &odd_from, log, counts.moves)?;
     demand(last == odd_to, || format!("the moves end at {:?}, D has {:?}", members(&last), members(&odd_to)))?;
-    demand(log.len() == MOVE_BYTES * counts.moves, || format!("{} bytes of {} moves", log.len(), counts.moves))
+    demand(log.len() == MOVE_BYTES * counts.moves, || format!("{} bytes of {} moves", log.len(), counts.moves))?;
+    Ok(odd_from)
+}
+
+/// Each z of a log of legal moves is the smallest that any legal move has on the marks that the move gets.
+pub fn check_each_z(n: usize, odd_from: &Marks, log: &[u8]) -> Result<(), String> {
+    let mut marks = *odd_from;
+    for (k, bytes) in log.chunks(MOVE_BYTES).enumerate() {
+        let step = Move::from_bytes(bytes).ok_or_else(|| format!("move {k} is no move: {bytes:?}"))?;
+        existence::check_found(n, &marks, Some(&step)).map_err(|amiss| format!("move {k}: {amiss}"))?;
+        marks = carry_out(&marks, &step);
+    }
+    Ok(())
 }
 
 /// All of demand 3 that shows without the log. Answers the odd sets of C and of D, or the first part that fails.

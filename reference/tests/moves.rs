@@ -6,7 +6,8 @@ use sulmedra_reference::entries::Reply;
 use sulmedra_reference::existence::separating;
 use sulmedra_reference::moves::{is_legal, members, triple_term, Move, MOST_IN_Y};
 use sulmedra_reference::odd_set::{size, Marks};
-use sulmedra_reference::random::{legal_move, marks, Random};
+use sulmedra_reference::random::{legal_move, marks, rows, Random};
+use sulmedra_reference::{fast, moves};
 
 fn refused(number: u64) -> Reply {
     Reply { number, place: 0 }
@@ -102,6 +103,115 @@ fn near_the_end_of_moves() {
         }
     }
     assert!(told[0] > 50 && told[1] > 50, "both answers came up: {told:?}");
+}
+
+/// Odd sets of every size on every number of wires. `find` holds each z to the smallest that any legal move has, whatever
+/// the size.
+#[test]
+fn the_z_found_is_the_smallest() {
+    let mut random = Random::new(235);
+    for (n, rounds) in [(1, 20), (2, 20), (3, 40), (4, 200), (5, 100), (6, 60), (7, 40), (8, 30)] {
+        let mut told = Told::default();
+        for size in 0..1 << n {
+            for _ in 0..rounds {
+                let marks = marks(&mut random, n, size);
+                told.add(find(n, &marks, 40, &mut random).expect("sound marks"));
+            }
+        }
+        assert!(told.none > 0 && (n < 4 || told.smallest > 100 && told.larger > 20), "all came up, n = {n}: {told:?}");
+    }
+}
+
+#[test]
+fn every_odd_set_on_four_wires() {
+    let mut random = Random::new(236);
+    let mut told = Told::default();
+    for set in 0..1usize << 15 {
+        let marks = odd_set_of((1..16).filter(|p| set >> (p - 1) & 1 == 1));
+        told.add(find(4, &marks, 40, &mut random).expect("sound marks"));
+    }
+    assert!(told.none > 1000 && told.smallest > 1000 && told.larger > 1000, "all came up: {told:?}");
+}
+
+/// What trimming leaves, with a few parities flipped: there the smallest z that serves is often large, and many smaller
+/// ones fail.
+#[test]
+fn the_smallest_z_where_few_serve() {
+    let mut random = Random::new(237);
+    for (n, ends, least) in [(5, 40, 10), (6, 30, 20), (7, 20, 30), (8, 15, 40)] {
+        let mut seen = [false; 256];
+        for _ in 0..ends {
+            let mut end = marks(&mut random, n, 1 << (n - 1));
+            while let Some(step) = fast::find(n, &end) {
+                end = moves::carry_out(&end, &step);
+            }
+            for flips in [1, 1, 2, 2, 3, 3, 4, 4, 5, 5, 6, 8, 10, 12] {
+                let mut near = end;
+                (0..flips).for_each(|_| near[random.between(1, (1 << n) - 1)] ^= 1);
+                if let Some(step) = find(n, &near, 40, &mut random).expect("sound marks") {
+                    seen[usize::from(step.z)] = true;
+                }
+            }
+        }
+        let different = seen.into_iter().filter(|z| *z).count();
+        assert!(different >= least, "{different} different z on {n} wires");
+    }
+}
+
+/// Few members on many wires, and a move all the same: a set on four or five wires, seen through random rows, and some
+/// members beside it.
+#[test]
+fn the_smallest_z_of_few_members() {
+    let mut random = Random::new(239);
+    for n in 6..=8 {
+        let mut told = Told::default();
+        for _ in 0..400 {
+            let inner = random.between(4, 5);
+            let size = random.between(8, (1 << inner) - 1);
+            let rows = rows(&mut random, n);
+            let seen = |p: u8| (0..n).filter(|i| p >> i & 1 == 1).fold(0, |xor, i| xor ^ usize::from(rows[i]));
+            let mut few = odd_set_of(members(&marks(&mut random, inner, size)).into_iter().map(seen));
+            (0..random.below(10)).for_each(|_| few[random.between(1, (1 << n) - 1)] = 1);
+            told.add(find(n, &few, 40, &mut random).expect("sound marks"));
+        }
+        assert!(told.none > 5 && told.smallest > 5 && told.larger > 100, "all came up, n = {n}: {told:?}");
+    }
+}
+
+/// The same marks get the same z, however many wires are said to be there and whatever lies around.
+#[test]
+fn equal_marks_equal_z() {
+    let mut random = Random::new(238);
+    for n in 2..=7 {
+        for _ in 0..60 {
+            let size = random.between(1, (1 << n) - 1);
+            let marks = marks(&mut random, n, size);
+            let z =
+                |n: usize, random: &mut Random| find(n, &marks, 40, random).expect("sound marks").map(|step| step.z);
+            let first = z(n, &mut random);
+            for wires in n..=8 {
+                assert_eq!(z(wires, &mut random), first, "{wires} wires, members {:?}", members(&marks));
+            }
+        }
+    }
+}
+
+/// How often no move was found, one with z = 1, which is the smallest there is, and one with a larger z.
+#[derive(Debug, Default)]
+struct Told {
+    none: usize,
+    smallest: usize,
+    larger: usize,
+}
+
+impl Told {
+    fn add(&mut self, found: Option<Move>) {
+        match found {
+            None => self.none += 1,
+            Some(step) if step.z == 1 => self.smallest += 1,
+            Some(_) => self.larger += 1,
+        }
+    }
 }
 
 /// Sets whose every pair serves one way round only, always with the smaller in Y, or always with the larger: a finder

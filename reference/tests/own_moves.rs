@@ -1,7 +1,9 @@
 //! The reference's moves, held against each other and against the paper. No C function is called.
 
 use sulmedra_reference::coefficients::signature;
-use sulmedra_reference::existence::{find, find_by_trying_all, separating};
+use sulmedra_reference::existence::{
+    check_found, find, find_by_trying_all, separating, smallest_z, smallest_z_of_pairs,
+};
 use sulmedra_reference::moves::{carry_out, is_legal, members, part_of_log, replay, Move};
 use sulmedra_reference::odd_set::{size, Marks};
 use sulmedra_reference::random::{marks, Random};
@@ -62,27 +64,109 @@ fn bytes_that_are_no_move() {
     assert!(changed(0, 3).is_some(), "another z is a move, if not a legal one");
 }
 
-/// Every odd set on up to three wires, and some on four: what the elimination says is what trying everything says.
+/// Every odd set on up to three wires, and some on four and five: the elimination and trying everything give the same
+/// smallest z, and none in the same places.
 #[test]
-fn existence_by_elimination_is_existence() {
+fn the_smallest_z_by_elimination_is_the_smallest() {
+    let tried = |n: usize, marks: &Marks| find_by_trying_all(n, marks).map(|step| step.z);
     for n in 1..=3 {
         for set in 0..1usize << ((1 << n) - 1) {
             let marks = odd_set_of((1..1 << n).filter(|p| set >> (p - 1) & 1 == 1));
-            assert_eq!(find(n, &marks).is_some(), find_by_trying_all(n, &marks).is_some(), "n = {n}, {set:b}");
+            assert_eq!(smallest_z(n, &marks), tried(n, &marks), "n = {n}, {set:b}");
         }
     }
     let mut random = Random::new(110);
-    let mut none = 0;
-    for round in 0..160 {
-        let marks = marks(&mut random, 4, round % 16);
-        let found = find(4, &marks);
-        assert_eq!(found.is_some(), find_by_trying_all(4, &marks).is_some(), "members {:?}", members(&marks));
-        none += usize::from(found.is_none());
+    for (n, sizes) in [(4, 0..16), (5, 5..13)] {
+        let (mut none, mut larger) = (0, 0);
+        for size in sizes.cycle().take(160) {
+            let marks = marks(&mut random, n, size);
+            let z = smallest_z(n, &marks);
+            assert_eq!(z, tried(n, &marks), "members {:?}", members(&marks));
+            none += usize::from(z.is_none());
+            larger += usize::from(z > Some(1));
+        }
+        assert!(0 < none && none < 160 && larger > 5, "all came up, n = {n}: {none} of 160 none, {larger} above 1");
     }
-    assert!(0 < none && none < 160, "both answers came up: {none} of 160 without a move");
+}
+
+/// Asked once for each z and asked pair by pair, the equations give the same smallest z: on random sets, on what moves
+/// leave of them, and near that.
+#[test]
+fn two_eliminations_agree_on_the_smallest_z() {
+    let mut random = Random::new(116);
+    let agree = |n: usize, marks: &Marks| {
+        assert_eq!(smallest_z(n, marks), smallest_z_of_pairs(n, marks), "n = {n}, {:?}", members(marks));
+    };
+    for n in 1..=8 {
+        for _ in 0..if n < 7 { 40 } else { 12 } {
+            let size = random.between(0, (1 << n) - 1);
+            let mut left = marks(&mut random, n, size);
+            agree(n, &left);
+            while let Some(step) = find(n, &left) {
+                left = carry_out(&left, &step);
+            }
+            agree(n, &left);
+            (0..3).for_each(|_| left[random.between(1, (1 << n) - 1)] ^= 1);
+            agree(n, &left);
+        }
+    }
+}
+
+/// No member a in Y is a member b not in Y: with z = 0 no Y is legal.
+#[test]
+fn z_0_never_serves() {
+    let mut random = Random::new(117);
+    for size in 0..12 {
+        let marks = marks(&mut random, 4, size);
+        let odd_set = members(&marks);
+        for set in 0..1usize << size {
+            let y = (0..size).filter(|place| set >> place & 1 == 1).map(|place| odd_set[place]).collect();
+            assert!(!is_legal(4, &marks, &Move { z: 0, y }));
+        }
+    }
+}
+
+/// Legal moves for all pairs of all kinds of sets: those with the smallest z are accepted as found, the others refused.
+#[test]
+fn a_legal_move_with_a_larger_z_is_refused() {
+    let mut random = Random::new(118);
+    let (mut accepted, mut refused) = (0, 0);
+    for n in 4..=7 {
+        for _ in 0..6 {
+            let size = random.between(2 * n, 4 * n);
+            let marks = marks(&mut random, n, size);
+            let odd_set = members(&marks);
+            let pairs = odd_set.iter().flat_map(|a| odd_set.iter().map(move |b| (*a, *b))).filter(|(a, b)| a != b);
+            let legal: Vec<Move> = pairs.filter_map(|(a, b)| separating(n, &marks, a, b)).collect();
+            let smallest = legal.iter().map(|step| step.z).min();
+            for step in &legal {
+                match check_found(n, &marks, Some(step)) {
+                    Ok(()) => accepted += 1,
+                    Err(amiss) => {
+                        assert!(amiss.starts_with("the smallest z is"), "{amiss}");
+                        refused += 1;
+                    }
+                }
+                assert_eq!(check_found(n, &marks, Some(step)).is_ok(), Some(step.z) == smallest, "{step:?}");
+            }
+            assert_eq!(check_found(n, &marks, None).is_ok(), legal.is_empty(), "n = {n}, {odd_set:?}");
+        }
+    }
+    assert!(accepted > 20 && refused > 100, "both came up: {accepted} accepted, {refused} refused");
+}
+
+/// The smallest z alone is not enough: the move must be legal too.
+#[test]
+fn a_move_that_is_not_legal_is_refused() {
+    let all = odd_set_of(1..16);
+    assert_eq!(check_found(4, &all, Some(&m8())), Ok(()));
+    assert!(check_found(4, &all, None).is_err(), "there is one");
+    assert!(check_found(4, &all, Some(&Move { z: 1, y: vec![2, 4, 6, 8, 10, 12] })).is_err(), "the XOR is not 0");
+    assert!(check_found(3, &odd_set_of(1..8), Some(&Move { z: 1, y: vec![] })).is_err(), "there is none");
 }
 
 /// Three searches that share only the paper agree, on random sets of every size and on what trimming leaves of them.
+/// The one built for speed gives the smallest z.
 #[test]
 fn three_finders_agree() {
     let mut random = Random::new(111);
@@ -93,10 +177,10 @@ fn three_finders_agree() {
         for size in sizes {
             let mut left = marks(&mut random, n, size);
             while let Some(step) = fast::find(n, &left) {
-                assert!(is_legal(n, &left, &step), "{step:?} on {:?}", members(&left));
+                assert_eq!(check_found(n, &left, Some(&step)), Ok(()), "n = {n}");
                 left = carry_out(&left, &step);
             }
-            assert_eq!(find(n, &left), None, "n = {n}, {:?}", members(&left));
+            assert_eq!(check_found(n, &left, None), Ok(()), "n = {n}");
             if n < 8 {
                 assert_eq!(published::find(n, &left), None, "n = {n}, {:?}", members(&left));
             }

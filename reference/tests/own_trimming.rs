@@ -1,14 +1,18 @@
 //! The reference's checks of written lists and of trims must be able to say no. What they judge comes from the trimmer
 //! built for speed. No C function is called.
 
+use std::cell::Cell;
+
+use sulmedra_reference::existence::{self, separating, smallest_z};
 use sulmedra_reference::fast::{self, Trimmed};
 use sulmedra_reference::gates::{GATE_BYTES, MOST_GATES};
-use sulmedra_reference::odd_set::{odd_set, size};
+use sulmedra_reference::moves::{members, Move};
+use sulmedra_reference::odd_set::{odd_set, size, Marks};
+use sulmedra_reference::published;
 use sulmedra_reference::random::{circuit, rows, weights, Random};
 use sulmedra_reference::reading::{read, Reading};
-use sulmedra_reference::trimming::{check_trim, Counts};
+use sulmedra_reference::trimming::{check_demand_3, check_trim, Counts};
 use sulmedra_reference::writing::{check_written, most_written, plain_list, spelling, PULSES};
-use sulmedra_reference::{existence, published};
 
 fn trim(n: usize, list: &[u8]) -> Trimmed {
     fast::trim(n, list, fast::find)
@@ -77,7 +81,10 @@ fn written_lists_are_accepted_and_damaged_ones_are_not() {
             assert!(check_written(n, &wanted, &shorter).is_err(), "a gate is missing, n = {n}");
             let mut longer = list.clone();
             longer.extend([3, 0, 0, 5, 0, 0]);
-            assert!(check_written(n, &wanted, &longer).is_err(), "S and S dagger add nothing, but are not spelled, n = {n}");
+            assert!(
+                check_written(n, &wanted, &longer).is_err(),
+                "S and S dagger add nothing, but are not spelled, n = {n}"
+            );
         }
     }
     assert_eq!(most_written(8), 2112);
@@ -130,15 +137,67 @@ fn random_trims_meet_demand_3() {
     }
 }
 
-/// The trim's promise does not hang on the finder.
+/// Demand 3 does not hang on the finder.
 #[test]
 fn other_finders_serve_as_well() {
     let mut random = Random::new(124);
     for n in 3..=6 {
         let list = circuit(&mut random, n, 300);
         assert_eq!(check(n, &list, &fast::trim(n, &list, existence::find)), Ok(()));
-        assert_eq!(check(n, &list, &fast::trim(n, &list, published::find)), Ok(()));
+        let Trimmed { gates, log, counts } = fast::trim(n, &list, published::find);
+        assert!(check_demand_3(n, &list, &gates, &log, &counts).is_ok(), "n = {n}, list {list:?}");
     }
+}
+
+/// A finder that gives the largest z: all of its moves are legal, the trim meets demand 3, and the log is refused.
+#[test]
+fn a_log_with_a_larger_z_is_noticed() {
+    let mut random = Random::new(127);
+    let mut refused = 0;
+    for n in 4..=6 {
+        for _ in 0..8 {
+            let list = circuit(&mut random, n, 200);
+            let Trimmed { gates, log, counts } = fast::trim(n, &list, with_the_largest_z);
+            let odd_from = check_demand_3(n, &list, &gates, &log, &counts).expect("the moves are legal");
+            if counts.moves > 0 && smallest_z(n, &odd_from) != Some(log[0]) {
+                let amiss = check_trim(n, &list, &gates, &log, &counts).expect_err("the first z is not the smallest");
+                assert!(amiss.starts_with("move 0: the smallest z is"), "{amiss}");
+                refused += 1;
+            }
+        }
+    }
+    assert!(refused > 5, "larger z came up: {refused}");
+}
+
+/// The right log but for one move, whichever it is: one with a larger z, and after it the right moves again.
+#[test]
+fn one_larger_z_in_a_log_is_noticed() {
+    let mut random = Random::new(128);
+    let mut refused = 0;
+    for _ in 0..12 {
+        let (n, list, right) = with_moves(&mut random);
+        for turn in 0..right.counts.moves {
+            let made = Cell::new(0);
+            let once = |n: usize, marks: &Marks| {
+                let find = if made.get() == turn { with_the_largest_z } else { fast::find };
+                made.set(made.get() + 1);
+                find(n, marks)
+            };
+            let changed = fast::trim(n, &list, once);
+            if changed.log[40 * turn] != right.log[40 * turn] {
+                let amiss = check(n, &list, &changed).expect_err("one z is not the smallest");
+                assert!(amiss.starts_with(&format!("move {turn}: the smallest z is")), "{amiss}");
+                refused += 1;
+            }
+        }
+    }
+    assert!(refused > 10, "larger z came up: {refused}");
+}
+
+fn with_the_largest_z(n: usize, marks: &Marks) -> Option<Move> {
+    let odd_set = members(marks);
+    let partners = |z: u8| odd_set.iter().map(move |a| (*a, a ^ z)).filter(|(_, b)| odd_set.contains(b));
+    (1..=255).rev().find_map(|z| partners(z).find_map(|(a, b)| separating(n, marks, a, b)))
 }
 
 #[test]

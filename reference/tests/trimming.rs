@@ -1,8 +1,9 @@
-//! Trims by the library: every part of demand 3, literally, on what it wrote (`comparison::trimming` asks for all of
-//! it).
+//! Trims by the library: every part of demand 3, literally, and the smallest z of each logged move, on what it wrote
+//! (`comparison::trimming` asks for all of it).
 
 use sulmedra_reference::comparison::trimming::{trim, trim_into};
 use sulmedra_reference::entries::Reply;
+use sulmedra_reference::existence::smallest_z_of_pairs;
 use sulmedra_reference::gates::{GATE_BYTES, MOST_GATES, T, T_DAGGER};
 use sulmedra_reference::odd_set::odd_set;
 use sulmedra_reference::random::{circuit, marks, rows, weights, Random};
@@ -262,4 +263,27 @@ fn the_log_leads_to_the_last_odd_set() {
         all += answer.counts.moves;
     }
     assert!(all > 0, "moves came up");
+}
+
+/// The log once more, by itself: on the marks that a move gets, no pair of members serves with a smaller z. Here the
+/// pairs are asked one by one, which the check of every trim does not do.
+#[test]
+fn each_logged_z_is_the_smallest() {
+    let mut random = Random::new(277);
+    let mut larger = 0;
+    for n in 4..=8 {
+        for _ in 0..6 {
+            let list = circuit(&mut random, n, 600);
+            let answer = trim(n, &list, &mut random).expect("accepted");
+            let mut marks = odd_set(&read(n, &list).weights);
+            for bytes in answer.log.chunks(moves::MOVE_BYTES) {
+                let step = moves::Move::from_bytes(bytes).expect("forty bytes of a move");
+                assert_eq!(smallest_z_of_pairs(n, &marks), Some(step.z), "n = {n}, {:?}", moves::members(&marks));
+                larger += usize::from(step.z > 1);
+                marks = moves::carry_out(&marks, &step);
+            }
+            assert_eq!(smallest_z_of_pairs(n, &marks), None, "n = {n}, {:?}", moves::members(&marks));
+        }
+    }
+    assert!(larger > 20, "z above 1 came up: {larger}");
 }

@@ -22,7 +22,7 @@ use Rattle.phase.proofs.WireSums.{apart-other, apart-same}
 use Rattle.phase.proofs.Wires.{is-one, is-two, low-one, low-two, next-two}
 use Rattle.phase.specs.NewWeights.{apart, byWires, newWeight, newWeights, next, oneRest, pairRest, rest}
 use Rattle.rests.proofs.Difference.{one-by-difference, pair-by-difference}
-use Rattle.rests.proofs.Tables.{length-weights, one-at, weights-at}
+use Rattle.rests.proofs.Tables.{length-weights, one-at, weight-above, weights-at}
 use Rattle.weights.specs.Lists.{lEntry, qList}
 use Rattle.rests.specs.Rests.{difference, mostRest, newIn, oneIn, oneRests, pairIn, restIn, weightIn, weightsIn}
 
@@ -103,9 +103,6 @@ module _ (N : ℕ) (one qs : List ℕ) (p : ℕ) where
 module _ (N n : ℕ) (one qs : List ℕ) (mark p : ℕ) where
   pub weight-below : (r : ℕ) → p < 2 ^ n → r ≡ restIn N one qs p → (mark + r) % 8 ≡ weightIn N n one qs mark p
   weight-below r h e = simp (lt-ltb p (2 ^ n) h) (rw e)
-
-  pub weight-above : 2 ^ n ≤ p → 0 ≡ weightIn N n one qs mark p
-  weight-above h = simp (le-ltb p (2 ^ n) h)
 
 length-new : (size n : ℕ) (w u : List ℕ) → 2 ^ n ≤ size → length (newWeights size n w u) ≡ size
 unfolding newWeights

@@ -2,7 +2,7 @@
 -- has room for.
 use mathlib.Core.List.{List}
 use mathlib.Core.Path.{_≡_}
-use Prim.Native.Nat.{_%_, _*_, _+_, _^_, ℕ, _≤_}
+use Prim.Native.Nat.{_%_, _*_, _+_, _<_, _^_, ℕ, _≤_}
 use lib.Count.{ones}
 use lib.Dec.{ltb}
 use lib.ListN.{getD, length}
@@ -67,3 +67,16 @@ pub record RestsFit (one q : List ℕ) : Type 0 where
 pub record TablesFit (marks out : List ℕ) : Type 0 where
   pub marks-fit : length marks ≡ tableBytes
   pub out-fits : length out ≡ tableBytes
+
+-- ---- what it leaves on the way
+
+-- the new weights of the parities of n wires
+pub record LowWeights (n : ℕ) (one qs u out : List ℕ) : Type 0 where
+  pub long : length out ≡ tableBytes
+  pub low : (p : ℕ) → p < 2 ^ n → weight out p ≡ weightIn maxWires n one qs (weight u p) p
+
+-- 0 from a place on, and before it as it was
+pub record ZerosFrom (from : ℕ) (out out′ : List ℕ) : Type 0 where
+  pub as-long : length out′ ≡ length out
+  pub kept : (p : ℕ) → p < from → weight out′ p ≡ weight out p
+  pub zeros : (p : ℕ) → from ≤ p → weight out′ p ≡ 0

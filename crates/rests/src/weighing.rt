@@ -8,13 +8,12 @@ ghost use Rattle.gf2.specs.Sum.{sum};
 ghost use Rattle.circuit.specs.Limits.{maxWires, mostByte, pairBytes, parities, tableBytes};
 ghost use Rattle.circuit.specs.Sound.{SoundMarks, SoundWeights};
 ghost use Rattle.phase.specs.NewWeights.{apart, newWeights};
-ghost use Rattle.rests.specs.Rests.{DifferenceFits, RestsFit, TablesFit, difference, mostRest, newIn, oneIn, oneRests, pairIn};
-ghost use Rattle.rests.specs.Rests.{restIn, weightIn, weightsIn};
+ghost use Rattle.rests.specs.Rests.{DifferenceFits, LowWeights, RestsFit, TablesFit, ZerosFrom, difference, mostRest, newIn, oneIn};
+ghost use Rattle.rests.specs.Rests.{oneRests, pairIn, restIn, weightIn, weightsIn};
 use circuit::limits::Coefficient;
 use circuit::limits::MAX_WIRES;
 use circuit::limits::Mark;
 use circuit::limits::PAIR_BYTES;
-use circuit::limits::PARITIES;
 use circuit::limits::Parity;
 use circuit::limits::TABLE_BYTES;
 use circuit::limits::Weight;
@@ -119,8 +118,27 @@ fn put_weights(n: usize, one: &[Weight], q: &[Coefficient], u: &[Mark], out: &mu
     requires { ⌜ (n ≤ maxWires) × RestsFit (now one) (now q) × TablesFit (now u) (now out) ⌝ }
     ensures { λ _. ⌜ now (out .exit) ≡ weightsIn parities maxWires n (now (one .entry)) (now (q .entry)) (now (u .entry)) ⌝ }
 {
-    for p in 0..PARITIES {
+    put_low(n, one, q, u, out);
+    put_zeros(1 << n, out);
+}
+
+// The weights of the parities of n wires.
+fn put_low(n: usize, one: &[Weight], q: &[Coefficient], u: &[Mark], out: &mut [Weight])
+    requires { ⌜ (n ≤ maxWires) × RestsFit (now one) (now q) × TablesFit (now u) (now out) ⌝ }
+    ensures { λ _. ⌜ LowWeights n (now (one .entry)) (now (q .entry)) (now (u .entry)) (now (out .exit)) ⌝ }
+{
+    for p in 0..1 << n {
         out[p] = new_weight(n, one, q, u[p], p);
+    }
+}
+
+fn put_zeros(from: usize, out: &mut [Weight])
+    ensures { λ _. ⌜ ZerosFrom from (now (out .entry)) (now (out .exit)) ⌝ }
+{
+    let mut p = from;
+    while p < out.len() {
+        out[p] = 0;
+        p += 1;
     }
 }
 

@@ -1,17 +1,20 @@
-//! The proved trim beside two others on the same circuits, in one run: an optimised Rust trimmer with the same search,
-//! and the published search taken literally, which computes a nullspace of all conditions anew for each pair.
+//! The proved trim beside others on the same circuits, in one run: an optimised Rust trimmer with the same search, the
+//! published search taken literally, which computes a nullspace of all conditions anew for each pair, and, where it is
+//! linked, the library before the last change (`build.rs` says how).
 //!
-//! Run it by `cargo run --profile benchmark --offline --features trim --bin benchmark`. Times are the shortest of
-//! several runs that take turns. Nothing is asserted of them.
+//! Run it by `cargo run --profile benchmark --offline --bin benchmark`. Times are the shortest of several runs that take
+//! turns. Nothing is asserted of them.
 
 use std::hint::black_box;
 use std::time::{Duration, Instant};
 
 use sulmedra_reference::entries::trimming;
+use sulmedra_reference::fast::{self, search::search};
+use sulmedra_reference::odd_set::Marks;
+use sulmedra_reference::published;
 use sulmedra_reference::random::{marks, rows, weights, Random};
 use sulmedra_reference::trimming::LOG_BYTES;
 use sulmedra_reference::writing::WRITTEN_BYTES;
-use sulmedra_reference::{fast, published};
 
 /// The circuits of one line.
 const CIRCUITS: usize = 3;
@@ -20,21 +23,94 @@ const CIRCUITS: usize = 3;
 const TIME_FOR_A_CIRCUIT: Duration = Duration::from_millis(40);
 const FEWEST_TURNS: usize = 3;
 
-/// What some circuits took, one after the other, and what came of them.
+/// Who trims. The first is the one that the others are compared with.
+const TRIMMERS: &[Trimmer] = if cfg!(before) {
+    &[Trimmer::Proved, Trimmer::Rust, Trimmer::Published, Trimmer::Before]
+} else {
+    &[Trimmer::Proved, Trimmer::Rust, Trimmer::Published]
+};
+
+#[derive(Clone, Copy, PartialEq, Eq)]
+enum Trimmer {
+    Proved,
+    Rust,
+    Published,
+    Before,
+}
+
+/// What is lent to the trims.
+struct Lent {
+    out: Vec<u8>,
+    log: Vec<u8>,
+    rust_out: Vec<u8>,
+    rust_log: Vec<u8>,
+}
+
+/// What came of a trim.
 #[derive(Clone, Copy, Default)]
-struct Line {
-    circuits: u32,
+struct Outcome {
     t_out: u64,
     moves: u64,
-    proved: Duration,
-    rust: Duration,
-    published: Duration,
+}
+
+impl Trimmer {
+    fn name(self) -> &'static str {
+        match self {
+            Trimmer::Proved => "proved",
+            Trimmer::Rust => "Rust",
+            Trimmer::Published => "published",
+            Trimmer::Before => "before",
+        }
+    }
+
+    /// The runs in a turn. The published search takes far longer than the others.
+    fn runs(self) -> usize {
+        if self == Trimmer::Published {
+            1
+        } else {
+            10
+        }
+    }
+
+    fn trim(self, n: usize, list: &[u8], lent: &mut Lent) -> Outcome {
+        let literally = |n: usize, marks: &Marks| published::find(n, marks).map(|step| step.to_bytes());
+        let proved = |answer: trimming::Trimmed| {
+            assert_eq!(answer.number, 0, "the circuit is accepted");
+            Outcome { t_out: answer.t_out, moves: answer.moves }
+        };
+        let counts = match self {
+            Trimmer::Proved => return proved(trimming::trim(n, list, &mut lent.out, &mut lent.log)),
+            #[cfg(before)]
+            Trimmer::Before => return proved(trimming::trim_before(n, list, &mut lent.out, &mut lent.log)),
+            #[cfg(not(before))]
+            Trimmer::Before => unreachable!("no earlier library is linked"),
+            Trimmer::Rust => fast::trim_into(n, list, &mut lent.rust_out, &mut lent.rust_log, search),
+            Trimmer::Published => fast::trim_into(n, list, &mut lent.rust_out, &mut lent.rust_log, literally),
+        };
+        Outcome { t_out: counts.t_out as u64, moves: counts.moves as u64 }
+    }
+}
+
+/// What one trimmer took for some circuits, one after the other, and what came of them.
+#[derive(Clone, Copy, Default)]
+struct Tally {
+    time: Duration,
+    outcome: Outcome,
+}
+
+/// Some circuits by all trimmers.
+#[derive(Clone, Default)]
+struct Line {
+    circuits: u32,
+    tallies: [Tally; 4],
 }
 
 fn main() {
     let mut random = Random::new(300);
-    println!("Trims of the same circuits: the proved library, optimised Rust, the published search taken literally.");
-    println!("Averages for a circuit, times in microseconds. A ratio above 1 says that the library is faster.");
+    println!(
+        "Trims of the same circuits. Averages for a circuit, times in microseconds; a ratio is to the proved time,"
+    );
+    println!("and above 1 it says that the proved library is faster.");
     let mut all = Line::default();
     for n in 4..=8 {
         let (most, bound) = ((1 << n) - 1, (n * n + n) / 2 + 1);
@@ -42,66 +118,63 @@ fn main() {
         let mut of_n = Line::default();
         for size in [n, bound / 2, bound.min(most), (most + bound) / 2, most - 1] {
             let line = compare(n, size, &mut random);
-            print_line(n, &size.to_string(), &line);
-            of_n = of_n.and(line);
+            print_line(&n.to_string(), &size.to_string(), &line);
+            of_n.add(&line);
         }
-        print_line(n, "all", &of_n);
-        all = all.and(of_n);
+        print_line(&n.to_string(), "all", &of_n);
+        all.add(&of_n);
     }
+    println!("\nAll of these circuits:");
+    print_head();
+    print_line("4-8", "all", &all);
     println!("\nHow the time grows with the odd set:");
     print_head();
     for size in [4, 8, 12, 16, 20, 24, 28, 32, 36, 40, 48, 64, 96, 128, 160, 192, 224, 255] {
-        print_line(8, &size.to_string(), &compare(8, size, &mut random));
+        print_line("8", &size.to_string(), &compare(8, size, &mut random));
     }
-    let ratio = |other: Duration| other.as_secs_f64() / all.proved.as_secs_f64();
-    println!(
-        "\nAll circuits of 4 to 8 wires together: Rust/proved {:.2}, published/proved {:.1}",
-        ratio(all.rust),
-        ratio(all.published)
-    );
 }
 
 impl Line {
-    fn and(self, other: Line) -> Line {
-        Line {
-            circuits: self.circuits + other.circuits,
-            t_out: self.t_out + other.t_out,
-            moves: self.moves + other.moves,
-            proved: self.proved + other.proved,
-            rust: self.rust + other.rust,
-            published: self.published + other.published,
+    fn add(&mut self, other: &Line) {
+        self.circuits += other.circuits;
+        for (tally, more) in self.tallies.iter_mut().zip(other.tallies) {
+            tally.time += more.time;
+            tally.outcome.t_out += more.outcome.t_out;
+            tally.outcome.moves += more.outcome.moves;
         }
     }
 }
 
 /// Times some random circuits with odd sets of this size.
 fn compare(n: usize, size: usize, random: &mut Random) -> Line {
-    (0..CIRCUITS).fold(Line::default(), |line, _| line.and(compare_one(n, &circuit(n, size, random))))
+    let mut line = Line::default();
+    (0..CIRCUITS).for_each(|_| line.add(&compare_one(n, &circuit(n, size, random))));
+    line
 }
 
-/// The shortest times of the three on one circuit.
+/// The shortest times of all on one circuit.
 fn compare_one(n: usize, list: &[u8]) -> Line {
-    let mut out = vec![0; WRITTEN_BYTES];
-    let mut log = vec![0; LOG_BYTES];
-    let answer = trimming::trim(n, list, &mut out, &mut log);
-    assert_eq!(answer.number, 0, "the circuit is accepted");
-
-    let [mut proved, mut rust, mut published] = [Duration::MAX; 3];
+    let mut lent = Lent {
+        out: vec![0; WRITTEN_BYTES],
+        log: vec![0; LOG_BYTES],
+        rust_out: Vec::with_capacity(WRITTEN_BYTES),
+        rust_log: Vec::with_capacity(LOG_BYTES),
+    };
+    let mut line = Line { circuits: 1, ..Line::default() };
+    line.tallies[..TRIMMERS.len()].iter_mut().for_each(|tally| tally.time = Duration::MAX);
     let start = Instant::now();
     let mut turns = 0;
     while turns < FEWEST_TURNS || start.elapsed() < TIME_FOR_A_CIRCUIT {
-        shortest(&mut proved, || trimming::trim(n, black_box(list), &mut out, &mut log));
-        shortest(&mut rust, || fast::trim(n, black_box(list), fast::find));
-        shortest(&mut published, || fast::trim(n, black_box(list), published::find));
+        for (trimmer, tally) in TRIMMERS.iter().zip(&mut line.tallies) {
+            for _ in 0..trimmer.runs() {
+                let start = Instant::now();
+                tally.outcome = black_box(trimmer.trim(n, black_box(list), &mut lent));
+                tally.time = start.elapsed().min(tally.time);
+            }
+        }
         turns += 1;
     }
-    Line { circuits: 1, t_out: answer.t_out, moves: answer.moves, proved, rust, published }
-}
-
-fn shortest<A>(time: &mut Duration, run: impl FnOnce() -> A) {
-    let start = Instant::now();
-    black_box(run());
-    *time = start.elapsed().min(*time);
+    line
 }
 
 /// A list whose odd set has `size` members, with even weights and rows at random.
@@ -112,16 +185,22 @@ fn circuit(n: usize, size: usize, random: &mut Random) -> Vec<u8> {
     fast::write(n, &table, &rows(random, n))
 }
 
+/// The time of each trimmer, the ratio of each other's to the first's, and the T gates out and moves of each.
 fn print_head() {
-    println!("\nwires  odd set  T out  moves     proved       Rust  published  Rust/proved  published/proved");
+    print!("\nwires  odd set");
+    TRIMMERS.iter().for_each(|trimmer| print!("  {:>9}", trimmer.name()));
+    TRIMMERS[1..].iter().for_each(|trimmer| print!("  {:>9}", format!("{}/", trimmer.name())));
+    println!("  T out of each; moves of each");
 }
 
-fn print_line(n: usize, size: &str, line: &Line) {
-    let circuits = f64::from(line.circuits);
-    let (t_out, moves) = (line.t_out as f64 / circuits, line.moves as f64 / circuits);
-    let [proved, rust, published] =
-        [line.proved, line.rust, line.published].map(|time| time.as_secs_f64() * 1e6 / circuits);
-    let (over_rust, over_published) = (rust / proved, published / proved);
-    print!("{n:5}  {size:>7}  {t_out:5.1}  {moves:5.1}  {proved:9.1}  {rust:9.1}  {published:9.1}");
-    println!("  {over_rust:11.2}  {over_published:16.1}");
+fn print_line(wires: &str, size: &str, line: &Line) {
+    let tallies = &line.tallies[..TRIMMERS.len()];
+    let first = tallies[0].time.as_secs_f64();
+    print!("{wires:>5}  {size:>7}");
+    tallies.iter().for_each(|tally| print!("  {:9.2}", tally.time.as_secs_f64() * 1e6 / f64::from(line.circuits)));
+    tallies[1..].iter().for_each(|tally| print!("  {:9.2}", tally.time.as_secs_f64() / first));
+    let average = |sum: u64| format!("{:.1}", sum as f64 / f64::from(line.circuits));
+    let t_out: Vec<String> = tallies.iter().map(|tally| average(tally.outcome.t_out)).collect();
+    let moves: Vec<String> = tallies.iter().map(|tally| average(tally.outcome.moves)).collect();
+    println!("  {}; {}", t_out.join(" "), moves.join(" "));
 }

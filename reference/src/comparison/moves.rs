@@ -3,10 +3,10 @@
 use crate::coefficients::signature;
 use crate::entries::moves::{self as entries, Found};
 use crate::entries::Reply;
-use crate::existence;
+use crate::existence::check_found;
 use crate::faults;
 use crate::lent::Lent;
-use crate::moves::{self, is_legal, Move, MOVE_BYTES};
+use crate::moves::{self, Move, MOVE_BYTES};
 use crate::odd_set::{size, Marks};
 use crate::random::Random;
 
@@ -34,8 +34,8 @@ pub fn carry_out(n: usize, marks: &[u8], step: &[u8], random: &mut Random) -> Re
     Ok(after)
 }
 
-/// Looks for a move with the entry, in an output of the given length. Answers the move, None if it says that there is
-/// none, or its refusal.
+/// Looks for a move with the entry, in an output of the given length. Answers the move, which has the smallest z of all
+/// legal ones, None if it says that there is none, or its refusal.
 pub fn find(n: usize, marks: &[u8], step_len: usize, random: &mut Random) -> Result<Option<Move>, Reply> {
     let lent_marks = Lent::holding(marks, random);
     let mut step = Lent::noise(step_len, random);
@@ -52,16 +52,14 @@ pub fn find(n: usize, marks: &[u8], step_len: usize, random: &mut Random) -> Res
         return Err(reply);
     }
     let marks: &Marks = marks.try_into().expect("accepted marks are 256");
-    let exists = existence::find(n, marks).is_some();
-    assert_eq!(answer.found, u64::from(exists), "found for n = {n}, members {:?}", moves::members(marks));
-    if !exists {
-        assert!(step.is_untouched(), "none was found, and the forty bytes changed, n = {n}");
-        return Ok(None);
+    let bytes = (answer.found != 0).then(|| step.part());
+    let found = bytes.map(|bytes| Move::from_bytes(bytes).unwrap_or_else(|| panic!("no move, n = {n}: {bytes:?}")));
+    assert_eq!(answer.found, u64::from(found.is_some()), "found is 0 or 1, n = {n}");
+    assert_eq!(check_found(n, marks, found.as_ref()), Ok(()), "n = {n}");
+    match found {
+        Some(_) => assert!(step.guards_hold(), "written beyond what was lent, n = {n}, marks {marks:?}"),
+        None => assert!(step.is_untouched(), "none was found, and the forty bytes changed, n = {n}"),
     }
-    assert!(step.guards_hold(), "written beyond what was lent, n = {n}, marks {marks:?}");
-    let found = Move::from_bytes(step.part());
-    let legal = found.as_ref().is_some_and(|found| is_legal(n, marks, found));
-    assert!(legal, "{:?} is no legal move for n = {n}, members {:?}", step.part(), moves::members(marks));
     Ok(found)
 }
 

@@ -1,4 +1,4 @@
-//! One call of the entry that trims, held against demand 3.
+//! One call of the entry that trims, held against demand 3 and to the smallest z of each logged move.
 
 use crate::entries::trimming::{self as entries, Trimmed};
 use crate::entries::Reply;
@@ -53,7 +53,7 @@ pub fn trim_into(n: usize, list: &[u8], out_len: usize, log_len: usize, random: 
         gates: answer.gates as usize,
     };
     let (gates, log) = (out.part()[..d_len].to_vec(), log.part()[..moves_len].to_vec());
-    assert_eq!(check_trim(n, list, &gates, &log, &counts), Ok(()), "demand 3 for n = {n}, {counts:?}, list {list:?}");
+    assert_eq!(check_trim(n, list, &gates, &log, &counts), Ok(()), "the trim for n = {n}, {counts:?}, list {list:?}");
     assert_eq!(check_written(n, &reading::read(n, &gates), &gates), Ok(()), "how D is written, n = {n}, list {list:?}");
     Ok(Answer { gates, log, counts })
 }

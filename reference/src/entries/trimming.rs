@@ -26,6 +26,17 @@ mod c {
             log: *mut u8,
             log_len: usize,
         ) -> Trimmed;
+
+        #[cfg(before)]
+        pub fn before_sulmedra_trim(
+            n: usize,
+            gates: *const u8,
+            gates_len: usize,
+            out: *mut u8,
+            out_len: usize,
+            log: *mut u8,
+            log_len: usize,
+        ) -> Trimmed;
     }
 }
 
@@ -35,5 +46,22 @@ pub fn trim(n: usize, gates: &[u8], out: &mut [u8], log: &mut [u8]) -> Trimmed {
     // are borrowed for writing, so they overlap nothing; the function keeps no pointer after it has replied.
     unsafe {
         c::sulmedra_trim(n, gates.as_ptr(), gates.len(), out.as_mut_ptr(), out.len(), log.as_mut_ptr(), log.len())
+    }
+}
+
+/// The same by an earlier library (`build.rs`), for the benchmark alone.
+#[cfg(before)]
+pub fn trim_before(n: usize, gates: &[u8], out: &mut [u8], log: &mut [u8]) -> Trimmed {
+    // SAFETY: as for `trim`.
+    unsafe {
+        c::before_sulmedra_trim(
+            n,
+            gates.as_ptr(),
+            gates.len(),
+            out.as_mut_ptr(),
+            out.len(),
+            log.as_mut_ptr(),
+            log.len(),
+        )
     }
 }

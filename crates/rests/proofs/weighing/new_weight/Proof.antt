@@ -4,7 +4,8 @@ use borrow.Author.Needs.{needs}
 use denote.Ref.{now}
 use Rattle.circuit.proofs.Steps.{shifted}
 use Rattle.circuit.specs.Limits.{maxWires}
-use Rattle.rests.proofs.RestSteps.{weight-above, weight-below}
+use Rattle.rests.proofs.RestSteps.{weight-below}
+use Rattle.rests.proofs.Tables.{weight-above}
 use Rattle.rests.proofs.weighing.new_weight.Statement.{statement}
 use Rattle.rests.proofs.weighing.new_weight.Tie as tie
 
