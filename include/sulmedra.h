@@ -157,7 +157,8 @@ typedef struct {
     uint64_t found;  /* 1: a legal move was written; 0: there is none, or a refusal */
 } sulmedra_found;
 
-/* Finds a legal move for the marks of an odd set, or says that there is none; the forty bytes are then untouched.
+/* Finds a legal move for the marks of an odd set, with the smallest z that any legal move for them has; or says that there is none, and
+ * the forty bytes are then untouched. Equal marks give equal z, after every upgrade; the set Y is free.
  *   marks  256 bytes, as above
  *   move   40 bytes, written where a move is found
  * Checks, in order: 1, 8 (move), 6 (marks). */
@@ -185,8 +186,9 @@ typedef struct {
 
 /* Trims a circuit on n wires: writes a circuit that sends each basis state to the same state with the same phase modulo 8, and the
  * moves that lead to it. It has no more T and T dagger gates than the circuit and no more than (n * n + n) / 2 + 1, and no legal move
- * is left for its odd set. Its weights are spelled as sulmedra_write spells them, so it has no Z. Which CNOTs are used, the order of
- * parities, and which legal moves are made are free.
+ * is left for its odd set. Each move is legal on the marks that it gets, and no legal move there has a smaller z. The weights are
+ * spelled as sulmedra_write spells them, so the circuit has no Z. Which CNOTs are used, the order of parities, and the set Y of each
+ * move are free.
  *   gates  three bytes each, at most 12,288 bytes, any bytes
  *   out    at least 6,336 bytes; the gates are written from its start, and what comes after the last is untouched
  *   log    at least 10,200 bytes; the moves are written from its start, forty bytes each, and what comes after the last is untouched

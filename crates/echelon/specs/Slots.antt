@@ -1,11 +1,12 @@
 -- What the functions of this crate promise of the slots.
-use mathlib.Core.Bool.{Bool, false, true}
 use mathlib.Core.List.{List}
+use mathlib.Core.Logic.{_≢_}
 use mathlib.Core.Path.{_≡_}
 use Prim.Native.Nat.{_<_, _^_, _≤_, suc, ℕ}
-use lib.ListN.{length, set}
+use lib.ListN.{getD, length, set}
 use Rattle.circuit.specs.Limits.{parities, productBits}
-use Rattle.gf2.specs.Echelon.{Reached, Shape, Stopped}
+use Rattle.gf2.specs.Bit.{bit}
+use Rattle.gf2.specs.Echelon.{Reached, Shape, Stopped, held}
 use Rattle.gf2.specs.Over.{Below}
 use Rattle.echelon.specs.declared.Inserted.{Inserted}
 use Rattle.echelon.specs.declared.Inserted.the-variants as inserted
@@ -48,10 +49,18 @@ pub record Opens (y v : ℕ) (vec by member vec′ by′ member′ : List ℕ) :
   pub by-is : by′ ≡ set by (slot .s) (slot .used)
   pub member-is : member′ ≡ set member (slot .s) y
 
--- `grow`: true where v opened a slot; else v came down to 0, and nothing changed
-abbrev pub Grows : ℕ → List ℕ → List ℕ → Bool → Type 0
-Grows v vec vec′ true = OpensSlot v vec vec′
-Grows v vec vec′ false = (vec′ ≡ vec) × ((used : ℕ) × Reached vec v 0 used)
+-- the slots that a mask names, each of which holds something
+pub record Masked (filled : ℕ) (vec : List ℕ) : Type 0 where
+  pub shape : Shape productBits (held filled vec)
+  pub some : (s : ℕ) → bit filled s ≡ 1 → getD vec s 0 ≢ 0
+
+-- `grow`, with the mask of the slots: where v opened a slot, r names it too; where v came down to 0, r is the mask as it was. What the mask
+-- names has not changed
+pub record Grows (v filled : ℕ) (vec vec′ : List ℕ) (r : ℕ) : Type 0 where
+  pub opens : r ≢ filled → OpensSlot v (held filled vec) (held r vec′)
+  pub masked : Masked r vec′
+  pub wider : (s : ℕ) → bit filled s ≡ 1 → bit r s ≡ 1
+  pub kept : (g : ℕ) → ((s : ℕ) → bit g s ≡ 1 → bit filled s ≡ 1) → held g vec′ ≡ held g vec
 
 -- nothing changed
 pub record Same (vec by member vec′ by′ member′ : List ℕ) : Type 0 where

@@ -7,7 +7,7 @@ ghost use Prim.Native.Nat.{_<_, _^_};
 ghost use lib.ListN.{length};
 ghost use Rattle.circuit.specs.Limits.{parities, productBits};
 ghost use Rattle.gf2.specs.Echelon.{Shape, byMembers};
-ghost use Rattle.echelon.specs.Slots.{Grows, Inserts, LeadingBit, Reduces, Slots};
+ghost use Rattle.echelon.specs.Slots.{Grows, Inserts, LeadingBit, Masked, Reduces, Slots};
 use circuit::cells::put_cell;
 use circuit::limits::PRODUCT_BITS;
 use circuit::limits::Parity;
@@ -81,23 +81,24 @@ pub fn insert(
     }
 }
 
-// The column v goes in, unless it is a combination already: true where it opens a slot. Nothing is kept beside the slots: for the question
-// whether there is a dependency at all.
-pub fn grow(v: u64, vec: &mut [u64; PRODUCT_BITS]) -> bool
-    requires { ⌜ Shape productBits (now vec) ⌝ }
+// The column v goes in, unless it is a combination of the slots in the mask `filled`; gives the mask with the slot that it opened. Nothing is
+// kept beside the slots: for the question whether there is a dependency at all. What stands in slots outside the mask means nothing, so an
+// earlier mask gives back the slots that it named.
+pub fn grow(v: u64, filled: u64, vec: &mut [u64; PRODUCT_BITS]) -> u64
+    requires { ⌜ Masked filled (now vec) ⌝ }
     requires { ⌜ v < 2 ^ productBits ⌝ }
-    ensures { λ r. ⌜ Grows v (now (vec .entry)) (now (vec .exit)) r ⌝ }
+    ensures { λ r. ⌜ Grows v filled (now (vec .entry)) (now (vec .exit)) r ⌝ }
 {
     let mut left = v;
     while left != 0 {
         let s = leading(left);
-        if vec[s] == 0 {
+        if (filled >> s) % 2 == 0 {
             vec[s] = left;
-            return true;
+            return filled ^ (1 << s);
         }
         left = left ^ vec[s];
     }
-    false
+    filled
 }
 
 // From a mask of slots to one of members: a slot stands for the member that opened it and for the slots taken off that one's column, which

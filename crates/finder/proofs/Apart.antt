@@ -1,6 +1,6 @@
 -- Whether the columns for a z are apart: the members without wire t go in first, for all z with this wire; then, for one z, the members
 -- with it that have no partner. Where each of them opened a slot, no move with z is legal.
-use mathlib.Core.Bool.{false, true}
+use mathlib.Core.Bool.{Bool, false, true}
 use mathlib.Core.List.{List}
 use mathlib.Core.Logic.{_≢_, _⊎_, inl, inr}
 use mathlib.Core.Path.{_∙_, _≡_, ap, refl, sym}
@@ -9,23 +9,25 @@ use native.Mathlib.Decide.{ℕ-discrete}
 use native.Mathlib.Nat.{le-refl}
 use native.Mathlib.Omega.{arith}
 use lib.Bits.{bitXor}
-use lib.ListN.{getD, length, replicate}
+use lib.ListN.{getD, length}
 use Rattle.circuit.specs.Limits.{maxMembers, maxWires, parities, productBits}
 use Rattle.circuit.specs.Sound.{weight}
 use Rattle.columns.proofs.Entries.{entry-is}
 use Rattle.columns.specs.Table.{ProductEntry}
-use Rattle.echelon.specs.Slots.{OpensSlot}
+use Rattle.echelon.proofs.Masks.{masked-kept}
+use Rattle.echelon.specs.Slots.{Grows, OpensSlot}
 use Rattle.gf2.proofs.Basis.{covers-more, covers-none, covers-some, covers-tags}
 use Rattle.gf2.proofs.Bit.{bit-lt, bit-values}
+use Rattle.gf2.proofs.Held.{held-none}
 use Rattle.gf2.specs.Bit.{bit}
-use Rattle.gf2.specs.Echelon.{Covers, Stopped}
+use Rattle.gf2.specs.Echelon.{Covers, Stopped, held}
 use Rattle.moves.proofs.Bars.{column-off, column-on}
 use Rattle.moves.proofs.Laws.{z-none}
 use Rattle.moves.proofs.Pairs.{partner-back}
 use Rattle.moves.specs.Column.{column}
 use Rattle.moves.specs.Pair.{Stands, pairTag}
 use Rattle.moves.specs.Sets.{In}
-use Rattle.finder.specs.Halves.{HalfApart, Without}
+use Rattle.finder.specs.Halves.{HalfApart, HalfIn, Without}
 use Rattle.finder.specs.OneZ.{HasPair, Members, NoneWith, ToAsk}
 
 -- nothing is said where the answer is no
@@ -62,9 +64,10 @@ WithoutTo ys t i y = Placed ys i y × (bit y t ≡ 0)
 abbrev pub HalfTo : List ℕ → ℕ → ℕ → List ℕ → Type 0
 HalfTo ys t i vec = (z : ℕ) (τ : ℕ → ℕ) → Covers productBits (WithoutTo ys t i) (column maxWires z t) τ vec
 
--- no member passed, all slots empty
-pub half-start : (ys : List ℕ) (t : ℕ) → HalfTo ys t 0 (replicate productBits 0)
-half-start ys t z τ = covers-none productBits (column maxWires z t) τ (WithoutTo ys t 0) (λ y p. omega (arith, p .0 .under))
+-- no member passed, no slot named
+pub half-none : (ys : List ℕ) (t : ℕ) (vec : List ℕ) → length vec ≡ productBits → HalfTo ys t 0 (held 0 vec)
+half-none ys t vec long z τ =
+    rw (held-none vec, long) (covers-none productBits (column maxWires z t) τ (WithoutTo ys t 0) (λ y p. omega (arith, p .0 .under)))
 
 -- the next member names t
 pub half-skip : (ys : List ℕ) (t i : ℕ) {y : ℕ} {vec : List ℕ} → HalfTo ys t i vec → y ≡ getD ys i 0 → y / 2 ^ t % 2 ≢ 0
@@ -104,6 +107,22 @@ pub half-all : (ys : List ℕ) (t : ℕ) {vec : List ℕ} → HalfTo ys t (lengt
 half-all ys t {vec} h z τ =
     covers-some productBits (column maxWires z t) τ (WithoutTo ys t (length ys)) (Without ys t) vec
     (λ y p. (placed-all (p .0), p .1)) (h z τ)
+
+-- the slots of the half, while others are filled: `filled` names them too, and they hold what they held
+pub record HalfKept (half : ℕ) (vec₀ : List ℕ) (filled : ℕ) (vec : List ℕ) : Type 0 where
+  pub inside : (s : ℕ) → bit half s ≡ 1 → bit filled s ≡ 1
+  pub same : held half vec ≡ held half vec₀
+
+pub half-first : {half : ℕ} {vec : List ℕ} → HalfKept half vec half vec
+half-first = record { inside = λ s e. e; same = refl }
+
+pub half-next : {half v filled more : ℕ} {vec₀ vec vec′ : List ℕ} → HalfKept half vec₀ filled vec → Grows v filled vec vec′ more
+    → HalfKept half vec₀ more vec′
+half-next {half} h g = record { inside = λ s e. g .wider s (h .inside s e); same = g .kept half (h .inside) ∙ h .same }
+
+pub half-kept : {ys : List ℕ} {t : ℕ} {apart : Bool} {filled : ℕ} {vec vec′ : List ℕ} → HalfIn ys t apart filled vec
+    → held filled vec′ ≡ held filled vec → HalfIn ys t apart filled vec′
+half-kept h e = record { known = λ a. rw e (h .known a); masked = masked-kept (h .masked) e }
 
 -- ---- for a z, the members with wire t that have no partner
 

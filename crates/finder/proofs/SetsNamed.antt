@@ -194,7 +194,7 @@ pair-none marks z {set} {member} {a} {m} {k} w a-none none all =
     go y q (no ne) =
         let on : getD (setWith a m member) y 0 ≡ 1 = ap (λ (u : List ℕ). getD u y 0) (sym (w .is)) ∙ q .on in
         let f = named-from parities member m productBits y
-            (λ e. omega (arith, on, getD-set-other w₀ a y ((getD w₀ a 0 + 1) % 2) 0 ne)) in
+        (λ e. omega (arith, on, getD-set-other w₀ a y ((getD w₀ a 0 + 1) % 2) 0 ne)) in
         none (f .0) (omega (arith, f .1)) (f .2) (rw (f .3) q)
 
 -- ---- the set named, searched and mended

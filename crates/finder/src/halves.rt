@@ -3,12 +3,15 @@
 ghost use mathlib.Core.Bool.{true};
 ghost use mathlib.Core.Path.{_≡_};
 ghost use Prim.Native.Nat.{_<_};
-ghost use Rattle.circuit.specs.Limits.{maxWires, parities};
+ghost use lib.ListN.{length};
+ghost use Rattle.circuit.specs.Limits.{maxWires, parities, productBits};
 ghost use Rattle.columns.specs.Table.{ProductTable};
+ghost use Rattle.echelon.specs.Slots.{Masked};
 ghost use Rattle.gf2.specs.Bit.{bit};
+ghost use Rattle.gf2.specs.Echelon.{held};
 ghost use Rattle.gf2.specs.Over.{Below};
 ghost use Rattle.moves.specs.Answer.{Decides};
-ghost use Rattle.finder.specs.Halves.{HalfApart};
+ghost use Rattle.finder.specs.Halves.{HalfApart, HalfIn};
 ghost use Rattle.finder.specs.OneZ.{HasPair, Members, NoneWith, ToAsk};
 use circuit::cells::cell_at;
 use circuit::limits::Mark;
@@ -19,23 +22,29 @@ use columns::table::product;
 use echelon::grow;
 use moves::marks::mark_at;
 
-// The slots of the columns of the members without wire t, and whether it is known that none depends on the others.
+// Whether it is known that none of the columns of the members without wire t depends on the others, and then the mask of their slots.
 pub struct Half {
     pub apart: bool,
-    pub vec: [u64; PRODUCT_BITS],
+    pub filled: u64,
 }
 
 // Eliminates the members without wire t. Where there are more than `most` members it looks at none: so many columns depend on each other.
-pub fn half_of(products: &[u64; PARITIES], ys: &[Parity], t: usize, most: usize) -> Half
+pub fn half_of(
+    products: &[u64; PARITIES],
+    ys: &[Parity],
+    t: usize,
+    most: usize,
+    vec: &mut [u64; PRODUCT_BITS],
+) -> Half
     requires { ⌜ ProductTable (now products) ⌝ }
-    requires { ⌜ Below parities (now ys) × (t < maxWires) ⌝ }
-    ensures { λ r. ⌜ (r .apart ≡ true → HalfApart (now (ys .entry)) t (r .vec)) ⌝ }
+    requires { ⌜ Below parities (now ys) × (t < maxWires) × (length (now vec) ≡ productBits) ⌝ }
+    ensures { λ r. ⌜ HalfIn (now (ys .entry)) t (r .apart) (r .filled) (now (vec .exit)) ⌝ }
 {
-    let mut vec = [0u64; PRODUCT_BITS];
+    let mut filled: u64 = 0;
     if ys.len() > most {
         return Half {
             apart: false,
-            vec: vec,
+            filled: 0,
         };
     }
     let mut i: usize = 0;
@@ -43,46 +52,51 @@ pub fn half_of(products: &[u64; PARITIES], ys: &[Parity], t: usize, most: usize)
         let y = cell_at(ys, i);
         i += 1;
         if (y >> t) % 2 == 0 {
-            if !grow(product(products, y), &mut vec) {
+            let more = grow(product(products, y), filled, vec);
+            if more == filled {
                 return Half {
                     apart: false,
-                    vec: vec,
+                    filled: 0,
                 };
             }
+            filled = more;
         }
     }
     Half {
         apart: true,
-        vec: vec,
+        filled: filled,
     }
 }
 
 // True only where all columns for z are apart, so that no move with z is legal: those of the singles with wire t go in after the half
-// without it, which has the columns of the pairs too.
+// without it, which has the columns of the pairs too. The slots of the half are as they were.
 fn all_apart(
     products: &[u64; PARITIES],
     marks: &[Mark],
     ys: &[Parity],
     z: Parity,
     t: usize,
-    half: [u64; PRODUCT_BITS],
+    half: u64,
+    vec: &mut [u64; PRODUCT_BITS],
 ) -> bool
     requires { ⌜ ProductTable (now products) ⌝ }
     requires { ⌜ Members (now marks) (now ys) ⌝ }
     requires { ⌜ (t < maxWires) × (z < parities) × (bit z t ≡ 1) ⌝ }
-    requires { ⌜ HalfApart (now ys) t half ⌝ }
-    ensures { λ r. ⌜ (r ≡ true → NoneWith (now (marks .entry)) z) ⌝ }
+    requires { ⌜ HalfApart (now ys) t (held half (now vec)) × Masked half (now vec) ⌝ }
+    ensures { λ r. ⌜ (r ≡ true → NoneWith (now (marks .entry)) z) × (held half (now (vec .exit)) ≡ held half (now (vec .entry))) ⌝ }
 {
-    let mut vec = half;
+    let mut filled = half;
     let mut i: usize = 0;
     while i < ys.len() {
         let y = cell_at(ys, i);
         i += 1;
         if (y >> t) % 2 == 1 {
             if mark_at(marks, y ^ z) == 0 {
-                if !grow(product(products, y ^ z), &mut vec) {
+                let more = grow(product(products, y ^ z), filled, vec);
+                if more == filled {
                     return false;
                 }
+                filled = more;
             }
         }
     }
@@ -112,12 +126,14 @@ pub fn to_ask(
     z: Parity,
     t: usize,
     half: Half,
+    vec: &mut [u64; PRODUCT_BITS],
 ) -> usize
     requires { ⌜ ProductTable (now products) ⌝ }
     requires { ⌜ Members (now marks) (now ys) ⌝ }
     requires { ⌜ (t < maxWires) × (z < parities) × (bit z t ≡ 1) ⌝ }
-    requires { ⌜ (half .apart ≡ true → HalfApart (now ys) t (half .vec)) ⌝ }
-    ensures { λ r. ⌜ ToAsk (now (marks .entry)) (now (ys .entry)) z r ⌝ }
+    requires { ⌜ HalfIn (now ys) t (half .apart) (half .filled) (now vec) ⌝ }
+    ensures { λ r. ⌜ ToAsk (now (marks .entry)) (now (ys .entry)) z r
+        × (held (half .filled) (now (vec .exit)) ≡ held (half .filled) (now (vec .entry))) ⌝ }
 {
     if !has_pair(marks, ys, z) {
         return 0;
@@ -126,8 +142,8 @@ pub fn to_ask(
     if !apart {
         return 2 * ys.len();
     }
-    let vec = half.vec;
-    if all_apart(products, marks, ys, z, t, vec) {
+    let filled = half.filled;
+    if all_apart(products, marks, ys, z, t, filled, vec) {
         return 0;
     }
     2 * ys.len()

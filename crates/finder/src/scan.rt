@@ -61,7 +61,8 @@ fn scan_wire(
     requires { ⌜ length (now cells) ≡ moveCells ⌝ }
     ensures { λ r. ⌜ Scanned (2 ^ suc t) (now (marks .entry)) (now (cells .entry)) (now (cells .exit)) r ⌝ }
 {
-    let half = half_of(products, ys, t, most);
+    let mut room = [0u64; PRODUCT_BITS];
+    let half = half_of(products, ys, t, most, &mut room);
     let mut vec = [0u64; PRODUCT_BITS];
     let mut by = [0u64; PRODUCT_BITS];
     let mut member = [0 as Parity; PRODUCT_BITS];
@@ -69,7 +70,7 @@ fn scan_wire(
     let low = 1usize << t;
     'search: for k in low..low + low {
         let z = k as Parity;
-        let m = to_ask(products, marks, ys, z, t, half);
+        let m = to_ask(products, marks, ys, z, t, half, &mut room);
         empty(m, &mut vec);
         for i in 0..m {
             let a = turn(marks, ys, z, t, i);

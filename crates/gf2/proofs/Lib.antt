@@ -15,6 +15,7 @@ pub mod Pairing
 pub mod Dependence
 pub mod Leading
 pub mod Combination
+pub mod Held
 pub mod Echelon
 pub mod Basis
 pub mod Symmetric

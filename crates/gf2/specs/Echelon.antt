@@ -8,6 +8,7 @@ use lib.Bits.{bitXor}
 use lib.ListN.{getD, length}
 use Rattle.gf2.specs.Bit.{bit}
 use Rattle.gf2.specs.Selection.{combine}
+use Rattle.gf2.specs.Table.{tabulate}
 
 -- what slot s may hold: 0, or a number whose leading bit is s
 pub record Lead (s x : ℕ) : Type 0 where
@@ -17,6 +18,10 @@ pub record Lead (s x : ℕ) : Type 0 where
 pub record Shape (N : ℕ) (vec : List ℕ) : Type 0 where
   pub long : length vec ≡ N
   pub lead : (s : ℕ) → s < N → Lead s (getD vec s 0)
+
+-- of a list of numbers, the slots that a mask names; the others hold nothing
+unfoldable pub held : ℕ → List ℕ → List ℕ
+held filled vec = tabulate (length vec) (λ s. bit filled s * getD vec s 0)
 
 -- the mask names slots that hold something
 abbrev pub Filled : List ℕ → ℕ → Type 0

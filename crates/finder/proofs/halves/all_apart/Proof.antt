@@ -5,25 +5,28 @@ use native.Mathlib.Omega.{arith}
 use lib.Bits.{bitXor}
 use lib.ListN.{length}
 use borrow.Author.Needs.{needs}
-use borrow.Author.Tests.{not-false}
 use denote.Ref.{now}
 use Rattle.circuit.specs.Limits.{parities}
-use Rattle.finder.proofs.Apart.{ApartTo, apart-more, apart-none, apart-off, apart-paired, apart-start, never}
+use Rattle.echelon.specs.Slots.{Masked}
+use Rattle.gf2.specs.Echelon.{held}
+use Rattle.finder.proofs.Apart.{ApartTo, HalfKept, apart-more, apart-none, apart-off, apart-paired, apart-start, half-first, half-next}
+use Rattle.finder.proofs.Apart.{never}
 use Rattle.finder.proofs.Turns.{partner-below}
 use Rattle.finder.proofs.halves.all_apart.Statement.{statement}
 use Rattle.finder.proofs.halves.all_apart.Tie as tie
 
 abbrev Inv-loop : tie.InvT-loop
-Inv-loop products marks ys z t vec₀ i₀ vec i = (i ≤ length ys) × ApartTo marks ys z t i vec
+Inv-loop products marks ys z t half vec₀ filled₀ i₀ vec filled i =
+    (i ≤ length ys) × ApartTo marks ys z t i (held filled vec) × Masked filled vec × HalfKept half vec₀ filled vec
 
 abbrev μ-loop : tie.MeasureT-loop
-μ-loop products marks ys z t vec₀ i₀ vec i = length ys - i
+μ-loop products marks ys z t half vec₀ filled₀ i₀ vec filled i = length ys - i
 
 loop-holds : tie.Need-loop-holds Inv-loop μ-loop
 loop-holds c =
     let s : tie.Start Inv-loop μ-loop = search in
     let a = s .args in
-    (search needs, apart-start (now (a .marks)) (now (a .ys)) (a .z) (a .t) (s .pre .1 .1 .1))
+    (search needs, apart-start (now (a .marks)) (now (a .ys)) (a .z) (a .t) (s .pre .1 .1 .1 .0), s .pre .1 .1 .1 .1, half-first)
 
 -- the entry, seen from a turn
 abbrev entry : tie.After-cell-at Inv-loop μ-loop → tie.Start Inv-loop μ-loop
@@ -47,10 +50,13 @@ grow-requires : tie.Need-grow-requires Inv-loop μ-loop
 grow-requires c κs =
     let p : tie.After-product Inv-loop μ-loop = search in
     let at : tie.At-loop Inv-loop μ-loop = search in
-    (at .loop .inv .1 (λ y. 0) .shape, p .product .ensures .fits)
+    (at .loop .inv .2, p .product .ensures .fits)
 
 returns : tie.Need-returns Inv-loop μ-loop
-returns c = never
+returns c =
+    let g : tie.After-grow Inv-loop μ-loop = search in
+    let at : tie.At-loop Inv-loop μ-loop = search in
+    (never, half-next (at .loop .inv .3) (g .grow .ensures) .same)
 
 loop-again : tie.Need-loop-again Inv-loop μ-loop
 loop-again c =
@@ -63,7 +69,9 @@ loop-again c =
     let a = s .args in (
       search needs,
       apart-more (now (a .marks)) (now (a .ys)) (a .z) (a .t) (at .loop .i) (at .loop .inv .1) (y .cell-at .ensures) (on .if1 .taken)
-          (p .product .ensures) (rw (not-false (g .grow .result) (c .if3 .left)) at (g .grow .ensures)),
+          (p .product .ensures) (g .grow .ensures .opens (c .if3 .left)),
+      g .grow .ensures .masked,
+      half-next (at .loop .inv .3) (g .grow .ensures),
     )
 
 loop-again-2 : tie.Need-loop-again-2 Inv-loop μ-loop
@@ -76,6 +84,8 @@ loop-again-2 c =
       search needs,
       apart-paired (now (a .marks)) (now (a .ys)) (a .z) (a .t) (at .loop .i) (at .loop .inv .1) (y .cell-at .ensures) (s .pre .1 .0)
           (mark .mark-at .ensures) (c .if2 .left),
+      at .loop .inv .2,
+      at .loop .inv .3,
     )
 
 loop-again-3 : tie.Need-loop-again-3 Inv-loop μ-loop
@@ -86,6 +96,8 @@ loop-again-3 c =
     let a = s .args in (
       search needs,
       apart-off (now (a .marks)) (now (a .ys)) (a .z) (a .t) (at .loop .i) (at .loop .inv .1) (y .cell-at .ensures) (c .if1 .left),
+      at .loop .inv .2,
+      at .loop .inv .3,
     )
 
 returns-2 : tie.Need-returns-2 Inv-loop μ-loop
@@ -93,7 +105,7 @@ returns-2 c =
     let at : tie.At-loop Inv-loop μ-loop = search in
     let s : tie.Start Inv-loop μ-loop = search in
     let e : at .loop .i ≡ length (now (s .args .ys)) = omega arith in
-    λ y. apart-none (s .pre .1 .0) (search) (search) (rw e at (at .loop .inv .1))
+    (λ y. apart-none (s .pre .1 .0) (search) (search) (rw e at (at .loop .inv .1)), at .loop .inv .3 .same)
 
 pub all-apart-spec : {M : Type 1} → statement M
 all-apart-spec =

@@ -12,25 +12,28 @@ use Rattle.circuit.specs.Limits.{maxMembers, maxWires, parities}
 use Rattle.echelon.specs.Slots.{Slots}
 use Rattle.moves.specs.Move.{NoneBelow}
 use Rattle.moves.specs.declared.Sought.the-variants.{Nothing}
+use Rattle.finder.proofs.Apart.{half-kept}
 use Rattle.finder.proofs.Asking.{Asked, HighestWire, asked-next, asked-start, empty-slots, highest-wire, none-below-more}
 use Rattle.finder.proofs.Asking.{offered-smallest, z-passed}
 use Rattle.finder.proofs.Turns.{members-below, turn-below}
+use Rattle.finder.specs.Halves.{HalfIn}
 use Rattle.finder.proofs.scan.scan_wire.Statement.{statement}
 use Rattle.finder.proofs.scan.scan_wire.Tie as tie
 
 abbrev Inv-loop : tie.InvT-loop
-Inv-loop most products marks ys t cells₀ half vec₀ by₀ member₀ best₀ low k z m i₀ k-end cells vec by member best i =
+Inv-loop most products marks ys t cells₀ room half vec₀ by₀ member₀ best₀ low k z m i₀ k-end cells vec by member best i =
     (best ≡ Nothing) × (cells ≡ cells₀) × (i ≤ m) × Asked marks ys z t m i vec by member
 
 abbrev μ-loop : tie.MeasureT-loop
-μ-loop most products marks ys t cells₀ half vec₀ by₀ member₀ best₀ low k z m i₀ k-end cells vec by member best i = m - i
+μ-loop most products marks ys t cells₀ room half vec₀ by₀ member₀ best₀ low k z m i₀ k-end cells vec by member best i = m - i
 
 abbrev Inv-search : tie.InvT-search
-Inv-search most products marks ys t cells₀ half vec₀ by₀ member₀ best₀ low k₀ k-end cells vec by member best k =
+Inv-search most products marks ys t cells₀ room₀ half vec₀ by₀ member₀ best₀ low k₀ k-end cells room vec by member best k =
     (best ≡ Nothing) × (cells ≡ cells₀) × (2 ^ t ≤ k) × Slots vec by member × NoneBelow maxMembers maxWires marks k
+    × HalfIn ys t (half .apart) (half .filled) room
 
 abbrev μ-search : tie.MeasureT-search
-μ-search most products marks ys t cells₀ half vec₀ by₀ member₀ best₀ low k₀ k-end cells vec by member best k = k-end - k
+μ-search most products marks ys t cells₀ room₀ half vec₀ by₀ member₀ best₀ low k₀ k-end cells room vec by member best k = k-end - k
 
 -- the loop over the turns, the loop over z, and the entry
 abbrev Inner : Type 0
@@ -47,7 +50,7 @@ low-is : (s : Entry) → 1 * 2 ^ (s .args .t) % 2 ^ 64 ≡ 2 ^ (s .args .t)
 low-is s = shifted 64 (s .args .t) (omega (arith, s .pre .1 .0 .1))
 
 half-of-requires : tie.Need-half-of-requires Inv-loop μ-loop Inv-search μ-search
-half-of-requires c κs = let s : Entry = search in (s .pre .0, (members-below (s .pre .1 .0 .0), s .pre .1 .0 .1))
+half-of-requires c κs = let s : Entry = search in (s .pre .0, (members-below (s .pre .1 .0 .0), s .pre .1 .0 .1, refl))
 
 add-k-end : tie.Need-add-k-end Inv-loop μ-loop Inv-search μ-search
 add-k-end c =
@@ -56,8 +59,9 @@ add-k-end c =
 
 search-holds : tie.Need-search-holds Inv-loop μ-loop Inv-search μ-search
 search-holds c =
+    let h : tie.After-half-of Inv-loop μ-loop Inv-search μ-search = search in
     let s : Entry = search in
-    (refl, refl, omega (arith, low-is s), empty-slots, rw (low-is s) (s .pre .1 .1 .0))
+    (refl, refl, omega (arith, low-is s), empty-slots, rw (low-is s) (s .pre .1 .1 .0), h .half-of .ensures)
 
 abbrev entry : Outer → Entry
 entry up = search
@@ -80,9 +84,8 @@ cast-z c = record { fits = omega (arith, wire c .below) }
 to-ask-requires : tie.Need-to-ask-requires Inv-loop μ-loop Inv-search μ-search
 to-ask-requires c κs =
     let u : Turning = search in
-    let h : tie.After-half-of Inv-loop μ-loop Inv-search μ-search = search in
-    let s : Entry = search in
-    (s .pre .0, (s .pre .1 .0 .0, ((s .pre .1 .0 .1, wire u .below, wire u .names), h .half-of .ensures)))
+    let s = entry (head u) in
+    (s .pre .0, (s .pre .1 .0 .0, ((s .pre .1 .0 .1, wire u .below, wire u .names), head u .search .inv .5)))
 
 empty-requires : tie.Need-empty-requires Inv-loop μ-loop Inv-search μ-search
 empty-requires c κs = let up : Outer = search in up .search .inv .3 .shape
@@ -98,7 +101,7 @@ turn-requires c κs =
     let ask : tie.After-to-ask Inv-loop μ-loop Inv-search μ-search = search in
     let u : Turning = search in
     let s : Entry = search in
-    (s .pre .1 .0 .0, (wire u .below, s .pre .1 .0 .1, omega (arith, ask .to-ask .ensures .fits)))
+    (s .pre .1 .0 .0, (wire u .below, s .pre .1 .0 .1, omega (arith, ask .to-ask .ensures .0 .fits)))
 
 column-requires : tie.Need-column-requires Inv-loop μ-loop Inv-search μ-search
 column-requires c κs =
@@ -151,7 +154,8 @@ search-again c =
       omega (arith, up .search .inv .2),
       at .loop .inv .3 .slots,
       none-below-more _ (up .search .inv .4)
-          (z-passed (s .pre .1 .0 .0) (s .pre .1 .0 .1) (wire u .names) (ask .to-ask .ensures) (rw e at (at .loop .inv .3))),
+          (z-passed (s .pre .1 .0 .0) (s .pre .1 .0 .1) (wire u .names) (ask .to-ask .ensures .0) (rw e at (at .loop .inv .3))),
+      half-kept (up .search .inv .5) (ask .to-ask .ensures .1),
     )
 
 same-length : tie.Need-same-length Inv-loop μ-loop Inv-search μ-search
@@ -178,7 +182,7 @@ returns-2 c =
     let at : Inner = search in
     let u : Turning = search in
     let up : Outer = search in
-    let s : Entry = search in
+    let s = entry up in
     let e = c .enum-told .given .1 in
     rw e
     (offered-smallest (s .pre .1 .0 .0) (at .loop .inv .3) (omega arith) (a .turn .ensures) refl (v .column .ensures .0) (s .pre .1 .0 .1)
