@@ -63,15 +63,6 @@ impl Trimmer {
         }
     }
 
-    /// The runs in a turn. The published search takes far longer than the others.
-    fn runs(self) -> usize {
-        if self == Trimmer::Published {
-            1
-        } else {
-            10
-        }
-    }
-
     fn trim(self, n: usize, list: &[u8], lent: &mut Lent) -> Outcome {
         let literally = |n: usize, marks: &Marks| published::find(n, marks).map(|step| step.to_bytes());
         let proved = |answer: trimming::Trimmed| {
@@ -166,11 +157,9 @@ fn compare_one(n: usize, list: &[u8]) -> Line {
     let mut turns = 0;
     while turns < FEWEST_TURNS || start.elapsed() < TIME_FOR_A_CIRCUIT {
         for (trimmer, tally) in TRIMMERS.iter().zip(&mut line.tallies) {
-            for _ in 0..trimmer.runs() {
-                let start = Instant::now();
-                tally.outcome = black_box(trimmer.trim(n, black_box(list), &mut lent));
-                tally.time = start.elapsed().min(tally.time);
-            }
+            let start = Instant::now();
+            tally.outcome = black_box(trimmer.trim(n, black_box(list), &mut lent));
+            tally.time = start.elapsed().min(tally.time);
         }
         turns += 1;
     }

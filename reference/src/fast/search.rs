@@ -41,13 +41,14 @@ fn gather(n: usize, marks: &Marks, list: &mut [u8; 256]) -> usize {
 /// All z whose highest wire is t, ascending.
 #[inline]
 fn scan_wire(n: usize, marks: &Marks, odd_set: &[u8], t: usize) -> Option<Logged> {
-    let half = half(n, odd_set, t);
+    let mut room = [0; PRODUCT_BITS];
+    let half = half(n, odd_set, t, &mut room);
     let mut slots = Slots::empty();
     for z in (1 << t..2 << t).map(|z: usize| z as u8) {
         if !odd_set.iter().any(|y| is_member(marks, y ^ z)) {
             continue;
         }
-        if half.is_some_and(|half| all_apart(half, marks, odd_set, z, t)) {
+        if half.is_some_and(|half| all_apart(half, &mut room, marks, odd_set, z, t)) {
             continue;
         }
         let found = slots.search(marks, odd_set, z, t);
@@ -68,22 +69,35 @@ fn names(y: u8, t: usize) -> bool {
     y >> t & 1 == 1
 }
 
-/// The slots of the columns of all members without t, if they are independent. No column names t, so at most n(n-1)/2
-/// are independent; where there are more members, none is eliminated beforehand.
+/// The mask of the slots of the columns of all members without t, if they are independent. No column names t, so at most
+/// n(n-1)/2 are independent; where there are more members, none is eliminated beforehand.
 #[inline]
-fn half(n: usize, odd_set: &[u8], t: usize) -> Option<Vectors> {
-    let mut vectors = [0; PRODUCT_BITS];
-    let apart = odd_set.len() <= n * (n - 1) / 2
-        && odd_set.iter().filter(|y| !names(**y, t)).all(|y| grow(&mut vectors, PRODUCTS[usize::from(*y)]));
-    apart.then_some(vectors)
+fn half(n: usize, odd_set: &[u8], t: usize, room: &mut Vectors) -> Option<u64> {
+    if odd_set.len() > n * (n - 1) / 2 {
+        return None;
+    }
+    all_grow(0, room, odd_set.iter().filter(|y| !names(**y, t)).map(|y| PRODUCTS[usize::from(*y)]))
 }
 
 /// Whether the columns for z are independent: to those of the members without t, which are in, come those of the members
-/// with t that have no partner.
+/// with t that have no partner. Slots outside the mask of the half are free, so nothing has to be put back.
 #[inline]
-fn all_apart(mut half: Vectors, marks: &Marks, odd_set: &[u8], z: u8, t: usize) -> bool {
-    let mut singles = odd_set.iter().filter(|y| names(**y, t) && !is_member(marks, *y ^ z));
-    singles.all(|y| grow(&mut half, PRODUCTS[usize::from(y ^ z)]))
+fn all_apart(half: u64, room: &mut Vectors, marks: &Marks, odd_set: &[u8], z: u8, t: usize) -> bool {
+    let singles = odd_set.iter().filter(|y| names(**y, t) && !is_member(marks, *y ^ z));
+    all_grow(half, room, singles.map(|y| PRODUCTS[usize::from(y ^ z)])).is_some()
+}
+
+/// Puts columns in beside the slots in the mask; answers the mask of all of them if they are independent.
+#[inline]
+fn all_grow(mut filled: u64, room: &mut Vectors, columns: impl Iterator<Item = u64>) -> Option<u64> {
+    for column in columns {
+        let more = grow(column, filled, room);
+        if more == filled {
+            return None;
+        }
+        filled = more;
+    }
+    Some(filled)
 }
 
 /// The most bits of a product entry.
@@ -136,16 +150,19 @@ fn reduce(vectors: &Vectors, column: u64) -> Reduced {
     Reduced::Dependent { used }
 }
 
-/// Puts a column in, and says no if it depends on those that are in.
+/// Puts a column in, unless it depends on the slots in the mask; answers the mask with the slot that it opened.
 #[inline]
-fn grow(vectors: &mut Vectors, column: u64) -> bool {
-    match reduce(vectors, column) {
-        Reduced::Dependent { .. } => false,
-        Reduced::Independent { slot, left, .. } => {
-            vectors[slot] = left;
-            true
+fn grow(column: u64, filled: u64, room: &mut Vectors) -> u64 {
+    let mut left = column;
+    while left != 0 {
+        let slot = left.ilog2() as usize;
+        if filled >> slot & 1 == 0 {
+            room[slot] = left;
+            return filled ^ 1 << slot;
         }
+        left ^= room[slot];
     }
+    filled
 }
 
 /// A basis that can say which members a dependency is made of. What stands beside a free slot says nothing.
