@@ -27,7 +27,7 @@ pub enum Inserted {
 }
 
 // Takes slots off v, each time the one at its leading bit.
-pub fn reduce(vec: &[u64; PRODUCT_BITS], v: u64) -> Reduced
+fn reduce(vec: &[u64; PRODUCT_BITS], v: u64) -> Reduced
     requires { ⌜ Shape productBits (now vec) ⌝ }
     requires { ⌜ v < 2 ^ productBits ⌝ }
     ensures { λ r. ⌜ Reduces (now (vec .entry)) v r ⌝ }

@@ -13,12 +13,12 @@ use lib.ListN.{getD, getD-replicate, length, length-replicate, replicate}
 use Rattle.circuit.specs.Limits.{maxMembers, maxWires, parities, productBits}
 use Rattle.circuit.specs.Sound.{SoundMarks}
 use Rattle.echelon.proofs.Slots.{opened-slots}
-use Rattle.echelon.specs.Slots.{Opens, Same, SlotMembers, Slots}
+use Rattle.echelon.specs.Slots.{Slots}
 use Rattle.gf2.proofs.Basis.{basis-had, basis-more, basis-none, basis-same, covers-none, covers-tags}
 use Rattle.gf2.proofs.Leading.{bit-top}
 use Rattle.gf2.proofs.Pairing.{xor-equal}
 use Rattle.gf2.specs.Bit.{bit}
-use Rattle.gf2.specs.Echelon.{Basis, Reached, Shape, byMembers}
+use Rattle.gf2.specs.Echelon.{Basis, Shape, byMembers}
 use Rattle.moves.proofs.Finding.{found, passed}
 use Rattle.moves.proofs.Keep.{member-lt}
 use Rattle.moves.proofs.Laws.{z-none}
@@ -29,11 +29,10 @@ use Rattle.moves.specs.Log.{SmallestCells}
 use Rattle.moves.specs.Move.{Legal, NoneBelow}
 use Rattle.moves.specs.Pair.{Stands, mended, pairTag}
 use Rattle.moves.specs.Sets.{listed}
-use Rattle.moves.specs.declared.Sought.{Sought}
-use Rattle.moves.specs.declared.Sought.the-variants.{Found, Nothing}
-use Rattle.finder.proofs.Turns.{had-all, had-last, had-new, had-none, had-stands, had-wider}
-use Rattle.finder.specs.Naming.{MoveOf, WritesMove, setWith, totalWith}
-use Rattle.finder.specs.OneZ.{Had, Members, NoneWith, Offered, Offers, Passed, ToAsk, TurnOf}
+use Rattle.finder.proofs.InTurn.{had-all, had-last, had-new, had-none, had-stands, had-wider}
+use Rattle.kernel.specs.Naming.{MoveOf, setWith, totalWith}
+use Rattle.kernel.specs.Offer.{Offered, Passed}
+use Rattle.finder.specs.OneZ.{Had, Members, NoneWith, ToAsk, TurnOf}
 use Rattle.finder.specs.Search.{Emptied}
 
 -- ---- the slots
@@ -51,24 +50,6 @@ empty-slots =
   where
     long : length (replicate {A = ℕ} productBits 0) ≡ productBits
     long = length-replicate {A = ℕ} productBits 0
-
--- what stands beside the slots that did not change
-pub beside : {vec by member vec′ by′ member′ : List ℕ} → Slots vec by member → Same vec by member vec′ by′ member′
-    → (length by′ ≡ productBits) × SlotMembers member′
-beside h t = rw (t .by-is, t .member-is) (h .by-long, h .members)
-
--- ---- one column
-
--- v came down to 0, and the move was written or not
-pub offers-down : (marks : List ℕ) {a : ℕ} (b : ℕ) {v used m : ℕ} {vec by member vec′ by′ member′ : List ℕ} (cells cells′ : List ℕ) → a ≢ 0
-    → Reached vec v 0 used × Same vec by member vec′ by′ member′ → m ≡ byMembers by′ used productBits → (r : Sought)
-    → WritesMove marks (bitXor a b) a m member′ cells cells′ r → Offers marks a b v vec by member cells vec′ by′ member′ cells′ r
-offers-down marks {a} b {used = used} cells cells′ some t e Found w =
-    record { some = some; used = used; reached = t .0; move = rw (e, t .1 .by-is, t .1 .member-is) at w }
-offers-down marks {a} b {used = used} cells cells′ some t e Nothing w = (
-  w .0,
-  inr (inr (some, record { used = used; reached = t .0; none = rw (e, t .1 .by-is, t .1 .member-is) at (w .1) }, t .1)),
-)
 
 -- ---- the columns of one z
 

@@ -1,6 +1,5 @@
 pub mod Listing
-pub mod SetsNamed
-pub mod Turns
+pub mod InTurn
 pub mod Apart
 pub mod Asking
 pub mod OnWires

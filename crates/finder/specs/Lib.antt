@@ -1,4 +1,3 @@
-pub mod Naming
 pub mod OneZ
 pub mod Halves
 pub mod Search

@@ -10,9 +10,8 @@ ghost use Rattle.finder.specs.Search.{Searched};
 
 pub mod halves;
 pub mod members;
-pub mod naming;
-pub mod pairs;
 pub mod scan;
+pub mod turns;
 
 use circuit::cells::part;
 use circuit::faults::lent_fault;

@@ -10,14 +10,14 @@ ghost use Rattle.finder.specs.OneZ.{Members};
 ghost use Rattle.finder.specs.Search.{Emptied, Scanned};
 use crate::halves::half_of;
 use crate::halves::to_ask;
-use crate::pairs::offer;
-use crate::pairs::turn;
+use crate::turns::turn;
 use circuit::limits::Mark;
 use circuit::limits::MoveCell;
 use circuit::limits::PARITIES;
 use circuit::limits::PRODUCT_BITS;
 use circuit::limits::Parity;
 use columns::column;
+use kernel::offer;
 use moves::Sought;
 
 // Goes through z from 1 up, by their highest wire t. Internal: the caller has gathered the members ys of the marks.

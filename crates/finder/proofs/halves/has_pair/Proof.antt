@@ -10,7 +10,7 @@ use denote.Ref.{now}
 use Rattle.circuit.specs.Sound.{weight}
 use Rattle.moves.proofs.Answers.{answer-no, answer-yes}
 use Rattle.finder.proofs.Apart.{has-partner, lone, no-partner}
-use Rattle.finder.proofs.Turns.{partner-below}
+use Rattle.finder.proofs.InTurn.{partner-below}
 use Rattle.finder.proofs.halves.has_pair.Statement.{statement}
 use Rattle.finder.proofs.halves.has_pair.Tie as tie
 

@@ -15,7 +15,7 @@ use Rattle.moves.specs.declared.Sought.the-variants.{Nothing}
 use Rattle.finder.proofs.Apart.{half-kept}
 use Rattle.finder.proofs.Asking.{Asked, HighestWire, asked-next, asked-start, empty-slots, highest-wire, none-below-more}
 use Rattle.finder.proofs.Asking.{offered-smallest, z-passed}
-use Rattle.finder.proofs.Turns.{members-below, turn-below}
+use Rattle.finder.proofs.InTurn.{members-below, turn-below}
 use Rattle.finder.specs.Halves.{HalfIn}
 use Rattle.finder.proofs.scan.scan_wire.Statement.{statement}
 use Rattle.finder.proofs.scan.scan_wire.Tie as tie

@@ -1,0 +1,2 @@
+pub mod SetsNamed
+pub mod Offering

@@ -1,0 +1,260 @@
+-- Marking what a mask names, and listing the marks, one turn of each loop after the other.
+use mathlib.Core.List.{List}
+use mathlib.Core.Logic.{_≢_}
+use mathlib.Core.Path.{_∙_, _≡_, ap, ap₂, refl, subst, sym}
+use Prim.Native.Nat.{_%_, _*_, _+_, _/_, _<_, _^_, _≤_, suc, zero, ℕ}
+use native.Mathlib.Decide.{ℕ-discrete}
+use native.Mathlib.Nat.{one-mul, zero-mul}
+use native.Mathlib.Numerals.{add-one}
+use native.Mathlib.Omega.{arith}
+use lib.Bits.{bitXor, xor-lt, xor-zero-r}
+use lib.ListN.{getD, length, length-set, replicate, set}
+use lib.Seq.{getD-set-other}
+use Rattle.circuit.proofs.OddSet.{members-sum}
+use Rattle.circuit.specs.Limits.{maxMembers, maxWires, moveCells, moveHead, parities, productBits, tableBytes}
+use Rattle.circuit.specs.OddSet.{memberCount}
+use Rattle.echelon.specs.Slots.{SlotMembers}
+use Rattle.gf2.proofs.Combination.{combine-whole}
+use Rattle.gf2.proofs.Selection.{combine-first, combine-next}
+use Rattle.gf2.specs.Bit.{bit}
+use Rattle.gf2.specs.Selection.{combine}
+use Rattle.gf2.specs.Sum.{sum}
+use Rattle.moves.proofs.Flips.{flip-bits}
+use Rattle.moves.proofs.Logs.{cells-count, cells-more, cells-none}
+use Rattle.moves.proofs.Sets.{listed-length, listed-off, listed-on, listed-room}
+use Rattle.moves.proofs.Naming.{Room, flipped-few, flipped-off, named-bits, named-few, named-from, named-length, named-off, named-on}
+use Rattle.moves.specs.CarryOut.{flip}
+use Rattle.moves.specs.Log.{asCells}
+use Rattle.moves.specs.Pair.{PairIn, mended, named}
+use Rattle.moves.specs.Sets.{listed}
+use Rattle.kernel.specs.Naming.{Few, MoveOf, NoPair, PairAt, SetNamed, listedCells, setWith, totalWith}
+
+-- ---- the loop over the slots
+
+pub naming-start : (member : List ℕ) (m : ℕ) → replicate parities 0 ≡ named parities member m 0
+unfolding named
+naming-start member m = refl
+
+module _ (member : List ℕ) (m k : ℕ) (marks : List ℕ) (is : marks ≡ named parities member m k) where
+  pub naming-long : length marks ≡ tableBytes
+  naming-long = ap length is ∙ named-length parities member m k
+
+  -- slot k is named, and p is its member
+  pub naming-named : (marks′ : List ℕ) (p : ℕ) → m / 2 ^ k % 2 ≡ 1 → p ≡ getD member k 0 → marks′ ≡ flip marks p
+      → marks′ ≡ named parities member m (k + 1)
+  unfolding bit
+  naming-named marks′ p e of t = t ∙ ap₂ flip is of ∙ sym (named-on parities member m k e)
+
+  pub naming-unnamed : m / 2 ^ k % 2 ≢ 1 → marks ≡ named parities member m (k + 1)
+  unfolding bit
+  naming-unnamed ne = is ∙ sym (named-off parities member m k (omega arith))
+
+-- the members of marks that are 0 or 1 are their sum
+marked-sum : (marks : List ℕ) → length marks ≡ tableBytes → ((p : ℕ) → getD marks p 0 < 2)
+    → memberCount marks ≡ sum parities (λ p. getD marks p 0)
+marked-sum marks long bits = members-sum marks bits ∙ ap (λ (k : ℕ). sum k (λ p. getD marks p 0)) long
+
+-- the set is small enough: a member for each slot at most, and a
+module _ (m : ℕ) {a : ℕ} {member : List ℕ} (h : SlotMembers member) (fits : a < parities) where
+  room : Room parities member m productBits
+  room j l e = h .below j (omega (arith, h .long))
+
+  small : Few (setWith a m member)
+  small =
+      let w : List ℕ = named parities member m productBits in
+      let long : length w ≡ tableBytes = named-length parities member m productBits in
+      let as-long : length (flip w a) ≡ tableBytes = length-set w a ((getD w a 0 + 1) % 2) ∙ long in
+      let bits : (p : ℕ) → getD (flip w a) p 0 < 2 = λ p. flip-bits w a p (named-bits parities member m productBits p) in
+      record {
+        long = as-long;
+        bits = bits;
+        few =
+            omega (
+              arith,
+              marked-sum (flip w a) as-long bits,
+              named-few parities member m productBits room,
+              subst (λ (k : ℕ). sum k (λ p. getD (flip w a) p 0) ≤ sum k (λ p. getD w p 0) + 1) long (flipped-few w a (rw long fits)),
+            );
+      }
+
+  -- all slots passed, and the mark of a flipped
+  pub set-marks : {w set : List ℕ} → w ≡ named parities member m productBits → set ≡ flip w a → SetNamed a m member set
+  set-marks {w} {set} is t =
+      let e : set ≡ setWith a m member = t ∙ ap (λ (x : List ℕ). flip x a) is in
+      record { is = e; small = subst Few (sym e) small }
+
+-- ---- the xor of the members passed
+
+pub xor-start : (m : ℕ) (member : List ℕ) → 0 ≡ combine (m % 2 ^ 0) member
+xor-start m member = sym (combine-first m member)
+
+module _ (m k : ℕ) (member : List ℕ) (x : ℕ) (is : x ≡ combine (m % 2 ^ k) member) where
+  pub xor-named : (y : ℕ) → m / 2 ^ k % 2 ≡ 1 → y ≡ getD member k 0 → bitXor x y ≡ combine (m % 2 ^ (k + 1)) member
+  unfolding bit
+  xor-named y e of =
+      ap₂ bitXor is of
+      ∙ sym (ap (λ (j : ℕ). combine (m % 2 ^ j) member) (add-one k) ∙ combine-next m k member
+      ∙ rw (e, one-mul (getD member k 0)))
+
+  pub xor-unnamed : m / 2 ^ k % 2 ≢ 1 → x ≡ combine (m % 2 ^ (k + 1)) member
+  unfolding bit
+  xor-unnamed ne =
+      let z : m / 2 ^ k % 2 ≡ 0 = omega arith in
+      is
+      ∙ sym (ap (λ (j : ℕ). combine (m % 2 ^ j) member) (add-one k) ∙ combine-next m k member
+      ∙ rw (z, zero-mul (getD member k 0)) (xor-zero-r (combine (m % 2 ^ k) member)))
+
+-- all of them
+pub xor-whole : (m a : ℕ) {member : List ℕ} {x : ℕ} → SlotMembers member → x ≡ combine (m % 2 ^ productBits) member
+    → bitXor x a ≡ totalWith a m member
+xor-whole m a {member} h is =
+    ap (λ (y : ℕ). bitXor y a) (is ∙ ap (λ (k : ℕ). combine (m % 2 ^ k) member) (sym (h .long)) ∙ combine-whole m member)
+
+-- ---- the set mended
+
+-- no more than before
+module _ {set : List ℕ} (h : Few set) (z y : ℕ) (z-fits : z < parities) (y-fits : y < parities) (on : getD set y 0 ≡ 1) where
+  abbrev once : List ℕ
+  once = flip set y
+
+  abbrev twice : List ℕ
+  twice = flip (flip set y) (bitXor y z)
+
+  once-long : length once ≡ tableBytes
+  once-long = length-set set y ((getD set y 0 + 1) % 2) ∙ h .long
+
+  once-bits : (p : ℕ) → getD once p 0 < 2
+  once-bits p = flip-bits set y p (h .bits p)
+
+  b-fits : bitXor y z < length once
+  b-fits = rw once-long (xor-lt maxWires y z y-fits z-fits)
+
+  flipped-twice : Few twice
+  flipped-twice =
+      let long : length twice ≡ tableBytes = length-set once (bitXor y z) ((getD once (bitXor y z) 0 + 1) % 2) ∙ once-long in
+      let bits : (p : ℕ) → getD twice p 0 < 2 = λ p. flip-bits once (bitXor y z) p (once-bits p) in
+      record {
+        long = long;
+        bits = bits;
+        few =
+            omega (
+              arith,
+              h .few,
+              marked-sum set (h .long) (h .bits),
+              marked-sum twice long bits,
+              subst (λ (k : ℕ). sum k (λ p. getD once p 0) + 1 ≡ sum k (λ p. getD set p 0)) (h .long)
+                  (flipped-off set y (rw (h .long) y-fits) on),
+              subst (λ (k : ℕ). sum k (λ p. getD twice p 0) ≤ sum k (λ p. getD once p 0) + 1) once-long
+                  (flipped-few once (bitXor y z) b-fits),
+            );
+      }
+
+  pub mended-few : (total : ℕ) → Few (mended total z y set)
+  unfolding mended
+  mended-few zero = h
+  mended-few (suc total) = flipped-twice
+
+-- ---- the search for one of a pair
+
+-- it is none of the members of the first k slots that m names
+abbrev pub NoneTo : List ℕ → ℕ → List ℕ → ℕ → List ℕ → ℕ → Type 0
+NoneTo marks z set m member k = (j : ℕ) → j < k → bit m j ≡ 1 → PairIn marks z set (getD member j 0) → ⊥
+
+pub pair-found : {marks set : List ℕ} {z y : ℕ} → length set ≡ tableBytes → y < parities → PairIn marks z set y → PairAt marks z set y
+pair-found long l p = record { some = λ h. p; none = λ h. absurd (omega arith) }
+
+module _ (marks set : List ℕ) (z m : ℕ) (member : List ℕ) {k : ℕ} (none : NoneTo marks z set m member k) where
+  next : (bit m k ≡ 1 → PairIn marks z set (getD member k 0) → ⊥) → NoneTo marks z set m member (k + 1)
+  next here j l e q = go (ℕ-discrete j k)
+    where
+      go : Dec (j ≡ k) → ⊥
+      go (yes d) = here (rw d at e) (rw d at q)
+      go (no ne) = none j (omega arith) e q
+
+  -- the member of slot k is none
+  pub none-lone : {y : ℕ} → y ≡ getD member k 0 → (PairIn marks z set y → ⊥) → NoneTo marks z set m member (k + 1)
+  none-lone is never = next (λ e q. never (rw is q))
+
+  -- m does not name the slot
+  pub none-unnamed : m / 2 ^ k % 2 ≢ 1 → NoneTo marks z set m member (k + 1)
+  unfolding bit
+  none-unnamed ne = next (λ e. absurd (ne e))
+
+-- none of the slots' members, nor a: none at all
+pub pair-none : (marks : List ℕ) (z : ℕ) {set member : List ℕ} {a m k : ℕ} → SetNamed a m member set → (PairIn marks z set a → ⊥)
+    → NoneTo marks z set m member k → productBits ≤ k → PairAt marks z set tableBytes
+pair-none marks z {set} {member} {a} {m} {k} w a-none none all =
+    record { some = λ h. absurd (omega (arith, w .small .long)); none = λ h y q. go y q (ℕ-discrete y a) }
+  where
+    w₀ : List ℕ
+    w₀ = named parities member m productBits
+
+    go : (y : ℕ) → PairIn marks z set y → Dec (y ≡ a) → ⊥
+    go y q (yes e) = a-none (rw e at q)
+    go y q (no ne) =
+        let on : getD (setWith a m member) y 0 ≡ 1 = ap (λ (u : List ℕ). getD u y 0) (sym (w .is)) ∙ q .on in
+        let f = named-from parities member m productBits y
+        (λ e. omega (arith, on, getD-set-other w₀ a y ((getD w₀ a 0 + 1) % 2) 0 ne)) in
+        none (f .0) (omega (arith, f .1)) (f .2) (rw (f .3) q)
+
+-- ---- the set named, searched and mended
+
+module _ {marks member set : List ℕ} {z a m r : ℕ} (w : SetNamed a m member set) (p : PairAt marks z set r) where
+  -- it has no one of a pair
+  pub move-none : tableBytes ≤ r → NoPair marks z a m member
+  move-none all y q = p .none (omega (arith, w .small .long)) y (rw (w .is) q)
+
+  module _ (l : r < tableBytes) where
+    one : PairIn marks z set r
+    one = p .some (omega (arith, w .small .long))
+
+    -- mended, it is small enough still
+    pub mended-set : (total : ℕ) {set′ : List ℕ} → z < parities → set′ ≡ mended total z r set → Few set′
+    mended-set total z-fits e = rw e (mended-few (w .small) z r z-fits (omega arith) (one .on) total)
+
+    -- and its cells are those of the move
+    pub move-of : {total : ℕ} {set′ cells : List ℕ} → total ≡ totalWith a m member → set′ ≡ mended total z r set
+        → cells ≡ listedCells z set′ → MoveOf marks z a m member cells
+    move-of x e f =
+        record {
+          y = r;
+          pair = subst (λ (u : List ℕ). PairIn marks z u r) (w .is) one;
+          is = f ∙ ap (listedCells z) (e ∙ ap₂ (λ (i : ℕ) (u : List ℕ). mended i z r u) x (w .is));
+        }
+
+-- ---- the loop over the marks
+
+pub list-none : (z : ℕ) (f : ℕ → ℕ) (cells : List ℕ) → cells ≡ set (replicate moveCells 0) 0 z → cells ≡ asCells maxMembers z (listed 0 f)
+unfolding listed
+list-none z f cells e = e ∙ sym (cells-none maxMembers z)
+
+-- the cells so far are those of the numbers below y that are marked
+abbrev pub ListedTo : ℕ → List ℕ → ℕ → List ℕ → Type 0
+ListedTo z marks y cells = cells ≡ asCells maxMembers z (listed y (λ p. getD marks p 0))
+
+module _ (z : ℕ) (marks : List ℕ) (h : Few marks) (y : ℕ) (inside : y < parities) (cells : List ℕ) (is : ListedTo z marks y cells) where
+  count : getD cells 1 0 ≡ length (listed y (λ p. getD marks p 0))
+  count = ap (λ (l : List ℕ). getD l 1 0) is ∙ cells-count maxMembers z (listed y (λ p. getD marks p 0))
+
+  -- there is room for one that is marked
+  pub list-room : getD marks y 0 ≡ 1 → getD cells 1 0 < maxMembers
+  list-room e =
+      omega (
+        arith,
+        count,
+        listed-room (λ p. getD marks p 0) (h .bits) parities y inside e,
+        listed-length (λ p. getD marks p 0) (h .bits) parities,
+        marked-sum marks (h .long) (h .bits),
+        h .few,
+      )
+
+  -- k of them so far: y goes after them, and they are one more
+  pub list-on : (k : ℕ) (cells₁ cells₂ : List ℕ) → getD marks y 0 ≡ 1 → k ≡ getD cells 1 0 → cells₁ ≡ set cells (k + moveHead) y
+      → cells₂ ≡ set cells₁ 1 (k + 1) → ListedTo z marks (y + 1) cells₂
+  list-on k cells₁ cells₂ e c f g =
+      let Y : List ℕ = listed y (λ p. getD marks p 0) in
+      let room : length Y < maxMembers = omega (arith, list-room e, count) in
+      rw (g, f, c, count, is) (cells-more maxMembers z Y y room ∙ ap (asCells maxMembers z) (sym (listed-on y (λ p. getD marks p 0) e)))
+
+  pub list-off : getD marks y 0 ≢ 1 → ListedTo z marks (y + 1) cells
+  list-off ne = is ∙ ap (asCells maxMembers z) (sym (listed-off y (λ p. getD marks p 0) (omega (arith, h .bits y))))

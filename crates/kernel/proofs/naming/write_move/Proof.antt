@@ -1,0 +1,58 @@
+-- The set has one of a pair, and is mended and listed; or it has none.
+use mathlib.Core.Path.{_∙_, _≡_, ap, refl}
+use Prim.Native.Nat.{_<_}
+use native.Mathlib.Omega.{arith}
+use lib.ListN.{length}
+use borrow.Author.Needs.{needs}
+use denote.Ref.{now}
+use Rattle.circuit.specs.Limits.{parities, tableBytes}
+use Rattle.kernel.proofs.SetsNamed.{mended-set, move-none, move-of}
+use Rattle.kernel.proofs.naming.write_move.Statement.{statement}
+use Rattle.kernel.proofs.naming.write_move.Tie as tie
+
+returns : tie.Need-returns
+returns c =
+    let p : tie.After-pair-at = search in
+    let w : tie.After-set-named = search in
+    (refl, move-none (w .set-named .ensures) (p .pair-at .ensures) (c .if1 .taken))
+
+list-requires : tie.Need-list-requires
+list-requires c κs =
+    let mended : tie.After-mend = search in
+    let x : tie.After-total-named = search in
+    let some : tie.Else1 = search in
+    let p : tie.After-pair-at = search in
+    let w : tie.After-set-named = search in
+    let s : tie.Start = search in
+    mended-set (w .set-named .ensures) (p .pair-at .ensures) (omega arith) (x .total-named .result) (s .pre .0 .1) (mended .mend .ensures)
+
+returns-2 : tie.Need-returns-2
+returns-2 c =
+    let copied : tie.After-copy-parities = search in
+    let l : tie.After-list = search in
+    let mended : tie.After-mend = search in
+    let x : tie.After-total-named = search in
+    let some : tie.Else1 = search in
+    let p : tie.After-pair-at = search in
+    let w : tie.After-set-named = search in
+    move-of (w .set-named .ensures) (p .pair-at .ensures) (omega arith) (x .total-named .ensures) (mended .mend .ensures)
+    (copied .copy-parities .ensures ∙ l .list .ensures)
+
+pub write-move-spec : {M : Type 1} → statement M
+write-move-spec =
+    tie.close
+    (tie.spec
+    (λ c κs. search needs)
+    (λ c. search needs)
+    (λ c κs. search needs)
+    returns
+    (λ c κs. search needs)
+    (λ c. search needs)
+    (λ c. search needs)
+    (λ c κs. search needs)
+    (λ c. search needs)
+    list-requires
+    (λ c. search needs)
+    (λ c κs. search needs)
+    (λ c. search needs)
+    returns-2)
