@@ -1,13 +1,13 @@
 //! The library's own trim once more, in Rust built for speed, as a measure for the proved one (`src/bin/benchmark.rs`).
 //!
 //! It is no other algorithm. The search ([`search`]) asks the same z in the same order and eliminates the same columns in
-//! the same slots; reading, weighing and writing go the library's way too. A move is forty bytes from the start, and the
+//! the same slots; judging, reading, weighing and writing go the library's way too. A move is forty bytes from the start, and the
 //! outputs are lent, as the library has it. The rest is up to the compiler. The same trim also runs with another finder,
 //! given from outside.
 
 pub mod search;
 
-use crate::gates::{gates_of, phase_of, CNOT, GATE_BYTES};
+use crate::gates::{gates_of, phase_of, Gate, CNOT, GATE_BYTES, MOST_GATES, MOST_WIRES, T, T_DAGGER};
 use crate::moves::Move;
 use crate::odd_set::{odd_set, size, t_count, Marks};
 use crate::reading::{Reading, Rows, Weights, ROWS_BYTES, WEIGHTS_BYTES};
@@ -38,6 +38,7 @@ pub fn trim_into(
     log: &mut Vec<u8>,
     find: impl Fn(usize, &Marks) -> Option<Logged>,
 ) -> Counts {
+    assert!(is_accepted(n, list), "the list is accepted");
     gates.clear();
     log.clear();
     let reading = read(n, list);
@@ -57,6 +58,17 @@ pub fn trim_into(
         moves,
         gates: gates.len() / GATE_BYTES,
     }
+}
+
+/// Whether the list has none of faults 1 to 5. The library judges every list before it reads it, and so does this trim.
+fn is_accepted(n: usize, list: &[u8]) -> bool {
+    let sound = |gate: Gate| match gate.kind {
+        CNOT => usize::from(gate.a) < n && usize::from(gate.b) < n && gate.a != gate.b,
+        T..=T_DAGGER => usize::from(gate.a) < n && gate.b == 0,
+        _ => false,
+    };
+    let long = list.len() % GATE_BYTES == 0 && list.len() <= GATE_BYTES * MOST_GATES;
+    (1..=MOST_WIRES).contains(&n) && long && gates_of(list).all(sound)
 }
 
 /// A legal move with the smallest z, or None exactly when no move is legal.
