@@ -56,54 +56,54 @@ module _ {filled : ℕ} {vec : List ℕ} {left s : ℕ} (m : Masked filled vec) 
         → Reached (held filled vec) v (bitXor left (getD vec s 0)) (bitXor used (2 ^ s))
     masked-takes r = rw (← (held-on filled vec s on)) (taken (m .shape) b holds r)
 
+    -- as the machine shifts its bit
+    pub machine-takes : {v used : ℕ} → Reached (held filled vec) v left used
+        → Reached (held filled vec) v (bitXor left (getD vec s 0)) (bitXor used (1 * 2 ^ s % 2 ^ 64))
+    machine-takes r = let own : 1 * 2 ^ s % 2 ^ 64 ≡ 2 ^ s = shifted 64 s (omega (arith, b .slot)) in rw own (masked-takes r)
+
   -- it does not: the slot is opened
   module _ (unnamed : filled / 2 ^ s % 2 ≡ 0) where
-    off : bit filled s ≡ 0
+    pub off : bit filled s ≡ 0
     unfolding bit
     off = unnamed
 
-    in-vec : s < length vec
-    in-vec = rw (masked-long m) (b .slot)
-
-    stopped : {v used : ℕ} → Reached (held filled vec) v left used → Stopped productBits (held filled vec) v s left used
+    pub stopped : {v used : ℕ} → Reached (held filled vec) v left used → Stopped productBits (held filled vec) v s left used
     stopped r = stops (m .shape) b (held-off filled vec s off) r
 
-    grown-masked : {v used : ℕ} → Reached (held filled vec) v left used → Masked (bitXor filled (2 ^ s)) (set vec s left)
-    grown-masked {v} {used} r =
-        record {
-          shape =
-              rw (held-put filled vec s left in-vec off)
-              (filled-shape productBits (held filled vec) v s left used (m .shape) (stopped r));
-          some = λ j e. go j e (ℕ-discrete j s);
-        }
-      where
-        go : (j : ℕ) → bit (bitXor filled (2 ^ s)) j ≡ 1 → Dec (j ≡ s) → getD (set vec s left) j 0 ≢ 0
-        go j e (yes d) z =
-            let x : left ≡ 0 = sym (getD-set-same vec s left 0 in-vec) ∙ ap (λ (i : ℕ). getD (set vec s left) i 0) (sym d) ∙ z in
-            omega (arith, b .lo, pow-pos s)
-        go j e (no ne) z =
-            m .some j (sym (other filled vec s left in-vec off j ne) ∙ e) (sym (getD-set-other vec s j left 0 ne) ∙ z)
+-- a column stopped at a slot outside the mask opens it
+module _ {v filled : ℕ} {vec : List ℕ} {s left used : ℕ} (m : Masked filled vec) (unnamed : bit filled s ≡ 0)
+    (t : Stopped productBits (held filled vec) v s left used) where
+  place : s < length vec
+  place = rw (masked-long m) (t .slot)
 
-    grown-by : {v used : ℕ} → Reached (held filled vec) v left used → Grows v filled vec (set vec s left) (bitXor filled (2 ^ s))
-    grown-by {v} {used} r =
-        record {
-          opens =
-              λ ne. record {
-                s = s;
-                left = left;
-                used = used;
-                stopped = stopped r;
-                vec-is = held-put filled vec s left in-vec off;
-              };
-          masked = grown-masked r;
-          wider = still-named filled vec s left in-vec off;
-          kept = unseen-put filled vec s left in-vec off;
-        }
+  own-bit : 1 * 2 ^ s % 2 ^ 64 ≡ 2 ^ s
+  own-bit = shifted 64 s (omega (arith, t .slot))
 
-    -- as the machine shifts its bit
-    pub grown : {v used : ℕ} → Reached (held filled vec) v left used
-        → Grows v filled vec (set vec s left) (bitXor filled (1 * 2 ^ s % 2 ^ 64))
-    grown r = let own : 1 * 2 ^ s % 2 ^ 64 ≡ 2 ^ s = shifted 64 s (omega (arith, b .slot)) in rw own (grown-by r)
+  pub slot-held : held (bitXor filled (1 * 2 ^ s % 2 ^ 64)) (set vec s left) ≡ set (held filled vec) s left
+  slot-held = rw own-bit (held-put filled vec s left place unnamed)
+
+  pub opened-masked : Masked (bitXor filled (1 * 2 ^ s % 2 ^ 64)) (set vec s left)
+  opened-masked =
+      rw own-bit (record {
+        shape = rw (held-put filled vec s left place unnamed) (filled-shape productBits (held filled vec) v s left used (m .shape) t);
+        some = λ j e. go j e (ℕ-discrete j s);
+      })
+    where
+      go : (j : ℕ) → bit (bitXor filled (2 ^ s)) j ≡ 1 → Dec (j ≡ s) → getD (set vec s left) j 0 ≢ 0
+      go j e (yes d) z =
+          let x : left ≡ 0 = sym (getD-set-same vec s left 0 place) ∙ ap (λ (i : ℕ). getD (set vec s left) i 0) (sym d) ∙ z in
+          omega (arith, t .lo, pow-pos s)
+      go j e (no ne) z = m .some j (sym (other filled vec s left place unnamed j ne) ∙ e) (sym (getD-set-other vec s j left 0 ne) ∙ z)
+
+  -- and what the mask named is as it was
+  pub grown : Grows v filled vec (set vec s left) (bitXor filled (1 * 2 ^ s % 2 ^ 64))
+  grown =
+      record {
+        opens = λ ne. record { s = s; left = left; used = used; stopped = t; vec-is = slot-held };
+        masked = opened-masked;
+        wider = rw own-bit (still-named filled vec s left place unnamed);
+        kept = unseen-put filled vec s left place unnamed;
+      }
 
 -- v came down to 0
 pub not-grown : (v : ℕ) {filled : ℕ} {vec : List ℕ} → Masked filled vec → Grows v filled vec vec filled

@@ -74,15 +74,12 @@ below-set b l s y ly h i li = go (ℕ-discrete i s)
     go (no ne) = omega (arith, getD-set-other l s i y 0 ne, h i inside)
 
 -- the slots are such still
-pub opened-shape : {v : ℕ} {vec vec′ : List ℕ} → Shape productBits vec → OpensSlot v vec vec′ → Shape productBits vec′
-opened-shape {v} {vec} shape t = rw (t .vec-is) (filled-shape productBits vec v (t .s) (t .left) (t .used) shape (t .stopped))
-
-pub opened-slots : {y v : ℕ} {vec by member vec′ by′ member′ : List ℕ} → Slots vec by member → y < parities
-    → Opens y v vec by member vec′ by′ member′ → Slots vec′ by′ member′
-opened-slots {y} {v} {vec} {by} {member} slots l o =
+pub opened-slots : {y v filled filled′ : ℕ} {vec by member vec′ by′ member′ : List ℕ} → Slots filled vec by member → y < parities
+    → Opens y v filled vec by member filled′ vec′ by′ member′ → Slots filled′ vec′ by′ member′
+opened-slots {y} {by = by} {member = member} slots l o =
     let t = o .slot in
     rw (o .by-is, o .member-is) (record {
-      shape = opened-shape (slots .shape) t;
+      masked = o .masked;
       by-long = length-set by (t .s) (t .used) ∙ slots .by-long;
       members =
           record {

@@ -19,10 +19,15 @@ pub record LeadingBit (x s : ℕ) : Type 0 where
   pub lo : 2 ^ s ≤ x
   pub hi : x < 2 ^ suc s
 
--- Dependent: v came down to 0. Independent: it was stopped at an empty slot, with so much left
-abbrev pub Reduces : List ℕ → ℕ → Reduced → Type 0
-Reduces vec v (reduced.Dependent used) = Reached vec v 0 used
-Reduces vec v (reduced.Independent s left used) = Stopped productBits vec v s left used
+-- the slots that a mask names, each of which holds something
+pub record Masked (filled : ℕ) (vec : List ℕ) : Type 0 where
+  pub shape : Shape productBits (held filled vec)
+  pub some : (s : ℕ) → bit filled s ≡ 1 → getD vec s 0 ≢ 0
+
+-- Dependent: v came down to 0. Independent: it was stopped at a slot that the mask does not name, with so much left
+abbrev pub Reduces : ℕ → List ℕ → ℕ → Reduced → Type 0
+Reduces filled vec v (reduced.Dependent used) = Reached (held filled vec) v 0 used
+Reduces filled vec v (reduced.Independent s left used) = (bit filled s ≡ 0) × Stopped productBits (held filled vec) v s left used
 
 -- the members beside the slots: parities. A lent array has the length of its type, which the borrow checker does not tell
 pub record SlotMembers (member : List ℕ) : Type 0 where
@@ -30,8 +35,8 @@ pub record SlotMembers (member : List ℕ) : Type 0 where
   pub below : Below parities member
 
 -- productBits slots, and beside each a mask of slots and a member
-pub record Slots (vec by member : List ℕ) : Type 0 where
-  pub shape : Shape productBits vec
+pub record Slots (filled : ℕ) (vec by member : List ℕ) : Type 0 where
+  pub masked : Masked filled vec
   pub by-long : length by ≡ productBits
   pub members : SlotMembers member
 
@@ -43,16 +48,12 @@ pub record OpensSlot (v : ℕ) (vec vec′ : List ℕ) : Type 0 where
   pub stopped : Stopped productBits vec v s left used
   pub vec-is : vec′ ≡ set vec s left
 
--- and is known there as that of y
-pub record Opens (y v : ℕ) (vec by member vec′ by′ member′ : List ℕ) : Type 0 where
-  pub slot : OpensSlot v vec vec′
+-- and is known there as that of y; the mask names the slot from then on
+pub record Opens (y v filled : ℕ) (vec by member : List ℕ) (filled′ : ℕ) (vec′ by′ member′ : List ℕ) : Type 0 where
+  pub slot : OpensSlot v (held filled vec) (held filled′ vec′)
+  pub masked : Masked filled′ vec′
   pub by-is : by′ ≡ set by (slot .s) (slot .used)
   pub member-is : member′ ≡ set member (slot .s) y
-
--- the slots that a mask names, each of which holds something
-pub record Masked (filled : ℕ) (vec : List ℕ) : Type 0 where
-  pub shape : Shape productBits (held filled vec)
-  pub some : (s : ℕ) → bit filled s ≡ 1 → getD vec s 0 ≢ 0
 
 -- `grow`, with the mask of the slots: where v opened a slot, r names it too; where v came down to 0, r is the mask as it was. What the mask
 -- names has not changed
@@ -68,6 +69,7 @@ pub record Same (vec by member vec′ by′ member′ : List ℕ) : Type 0 where
   pub by-is : by′ ≡ by
   pub member-is : member′ ≡ member
 
-abbrev pub Inserts : ℕ → ℕ → List ℕ → List ℕ → List ℕ → List ℕ → List ℕ → List ℕ → Inserted → Type 0
-Inserts y v vec by member vec′ by′ member′ (inserted.Dependent used) = Reached vec v 0 used × Same vec by member vec′ by′ member′
-Inserts y v vec by member vec′ by′ member′ inserted.Opened = Opens y v vec by member vec′ by′ member′
+abbrev pub Inserts : ℕ → ℕ → ℕ → List ℕ → List ℕ → List ℕ → List ℕ → List ℕ → List ℕ → Inserted → Type 0
+Inserts y v filled vec by member vec′ by′ member′ (inserted.Dependent used) =
+    Reached (held filled vec) v 0 used × Same vec by member vec′ by′ member′
+Inserts y v filled vec by member vec′ by′ member′ (inserted.Opened filled′) = Opens y v filled vec by member filled′ vec′ by′ member′

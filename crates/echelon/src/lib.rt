@@ -1,12 +1,12 @@
-// An xor basis ("echelon") of PRODUCT_BITS slots, in which the finder eliminates columns. Slot s holds 0, or a number whose
-// leading bit is s; beside it stand the parity whose column opened it, and the slots that were taken off that column before. Those beside
-// an empty slot mean nothing, so it is enough to empty the slots. Internal: no entry for users.
+// An xor basis ("echelon") of PRODUCT_BITS slots, in which the finder eliminates columns. A mask names the slots that are filled. Such a
+// slot s holds a number whose leading bit is s; beside it stand the parity whose column opened it, and the slots that were taken off that
+// column before. What stands in and beside the others means nothing: with the mask 0 all slots are empty. Internal: no entry for users.
 ghost use mathlib.Core.Logic.{_≢_};
 ghost use mathlib.Core.Path.{_≡_};
 ghost use Prim.Native.Nat.{_<_, _^_};
 ghost use lib.ListN.{length};
 ghost use Rattle.circuit.specs.Limits.{parities, productBits};
-ghost use Rattle.gf2.specs.Echelon.{Shape, byMembers};
+ghost use Rattle.gf2.specs.Echelon.{byMembers};
 ghost use Rattle.echelon.specs.Slots.{Grows, Inserts, LeadingBit, Masked, Reduces, Slots};
 use circuit::cells::put_cell;
 use circuit::limits::PRODUCT_BITS;
@@ -22,21 +22,21 @@ pub enum Reduced {
 pub enum Inserted {
     // The slots in the mask xor to the column, and nothing changed.
     Dependent { used: u64 },
-    // The column has opened a slot.
-    Opened,
+    // The column has opened a slot, and the mask names it too.
+    Opened { filled: u64 },
 }
 
-// Takes slots off v, each time the one at its leading bit.
-fn reduce(vec: &[u64; PRODUCT_BITS], v: u64) -> Reduced
-    requires { ⌜ Shape productBits (now vec) ⌝ }
+// Takes slots in the mask off v, each time the one at its leading bit.
+fn reduce(vec: &[u64; PRODUCT_BITS], filled: u64, v: u64) -> Reduced
+    requires { ⌜ Masked filled (now vec) ⌝ }
     requires { ⌜ v < 2 ^ productBits ⌝ }
-    ensures { λ r. ⌜ Reduces (now (vec .entry)) v r ⌝ }
+    ensures { λ r. ⌜ Reduces filled (now (vec .entry)) v r ⌝ }
 {
     let mut left = v;
     let mut used: u64 = 0;
     while left != 0 {
         let s = leading(left);
-        if vec[s] == 0 {
+        if (filled >> s) % 2 == 0 {
             return Reduced::Independent {
                 slot: s,
                 left: left,
@@ -57,26 +57,29 @@ fn leading(x: u64) -> usize
     63 - u64::leading_zeros(x) as usize
 }
 
-// The column v of y goes in, unless it is a combination already.
+// The column v of y goes in, unless it is a combination of the slots in the mask `filled`.
 pub fn insert(
     y: Parity,
     v: u64,
+    filled: u64,
     vec: &mut [u64; PRODUCT_BITS],
     by: &mut [u64; PRODUCT_BITS],
     member: &mut [Parity; PRODUCT_BITS],
 ) -> Inserted
-    requires { ⌜ Slots (now vec) (now by) (now member) ⌝ }
+    requires { ⌜ Slots filled (now vec) (now by) (now member) ⌝ }
     requires { ⌜ (y < parities) × (v < 2 ^ productBits) ⌝ }
-    ensures { λ r. ⌜ Inserts y v (now (vec .entry)) (now (by .entry)) (now (member .entry))
+    ensures { λ r. ⌜ Inserts y v filled (now (vec .entry)) (now (by .entry)) (now (member .entry))
         (now (vec .exit)) (now (by .exit)) (now (member .exit)) r ⌝ }
 {
-    match reduce(vec, v) {
+    match reduce(vec, filled, v) {
         Reduced::Dependent { used } => Inserted::Dependent { used: used },
         Reduced::Independent { slot, left, used } => {
             vec[slot] = left;
             by[slot] = used;
             put_cell(member, slot, y);
-            Inserted::Opened
+            Inserted::Opened {
+                filled: filled ^ (1 << slot),
+            }
         }
     }
 }

@@ -12,13 +12,15 @@ use lib.Pow.{pow-mono}
 use lib.ListN.{getD, getD-replicate, length, length-replicate, replicate}
 use Rattle.circuit.specs.Limits.{maxMembers, maxWires, parities, productBits}
 use Rattle.circuit.specs.Sound.{SoundMarks}
+use Rattle.echelon.proofs.Masks.{masked-long, masked-none}
 use Rattle.echelon.proofs.Slots.{opened-slots}
-use Rattle.echelon.specs.Slots.{Slots}
-use Rattle.gf2.proofs.Basis.{basis-had, basis-more, basis-none, basis-same, covers-none, covers-tags}
+use Rattle.echelon.specs.Slots.{SlotMembers, Slots}
+use Rattle.gf2.proofs.Basis.{basis-had, basis-more, basis-none, basis-same, covers-tags}
+use Rattle.gf2.proofs.Held.{held-none}
 use Rattle.gf2.proofs.Leading.{bit-top}
 use Rattle.gf2.proofs.Pairing.{xor-equal}
 use Rattle.gf2.specs.Bit.{bit}
-use Rattle.gf2.specs.Echelon.{Basis, Shape, byMembers}
+use Rattle.gf2.specs.Echelon.{Basis, byMembers, held}
 use Rattle.moves.proofs.Finding.{found, passed}
 use Rattle.moves.proofs.Keep.{member-lt}
 use Rattle.moves.proofs.Laws.{z-none}
@@ -31,86 +33,84 @@ use Rattle.moves.specs.Pair.{Stands, mended, pairTag}
 use Rattle.moves.specs.Sets.{listed}
 use Rattle.finder.proofs.InTurn.{had-all, had-last, had-new, had-none, had-stands, had-wider}
 use Rattle.kernel.specs.Naming.{MoveOf, setWith, totalWith}
-use Rattle.kernel.specs.Offer.{Offered, Passed}
+use Rattle.kernel.specs.Offer.{Offered, Passes}
 use Rattle.finder.specs.OneZ.{Had, Members, NoneWith, ToAsk, TurnOf}
-use Rattle.finder.specs.Search.{Emptied}
 
--- ---- the slots
+-- ---- what stands beside the slots that the scan begins with
 
-pub empty-shape : Shape productBits (replicate productBits 0)
-empty-shape = covers-none productBits (λ y. 0) (λ y. 0) (λ y. ⊥) (λ y p. p) .shape
-
-pub empty-slots : Slots (replicate productBits 0) (replicate productBits 0) (replicate productBits 0)
-empty-slots =
-    record {
-      shape = empty-shape;
-      by-long = long;
-      members = record { long = long; below = λ s l. rw (getD-replicate {A = ℕ} productBits s 0 0 (omega (arith, long))) (omega arith) };
-    }
+pub no-members : SlotMembers (replicate productBits 0)
+no-members =
+    record { long = long; below = λ s l. rw (getD-replicate {A = ℕ} productBits s 0 0 (omega (arith, long))) (omega arith) }
   where
     long : length (replicate {A = ℕ} productBits 0) ≡ productBits
     long = length-replicate {A = ℕ} productBits 0
 
+-- places for the slots, and for what stands beside them
+pub record Places (vec by member : List ℕ) : Type 0 where
+  pub vec-long : length vec ≡ productBits
+  pub by-long : length by ≡ productBits
+  pub members : SlotMembers member
+
+pub slot-places : {filled : ℕ} {vec by member : List ℕ} → Slots filled vec by member → Places vec by member
+slot-places h = record { vec-long = masked-long (h .masked); by-long = h .by-long; members = h .members }
+
 -- ---- the columns of one z
 
--- m turns are to be asked, and those before i were: their columns are in the slots
-pub record Asked (marks ys : List ℕ) (z t m i : ℕ) (vec by member : List ℕ) : Type 0 where
-  pub slots : Slots vec by member
-  pub basis : 0 < m → Basis productBits (Had marks ys z t i) (column maxWires z t) (pairTag marks z) vec by member
+-- the turns before i were asked: their columns are in the slots
+pub record Asked (marks ys : List ℕ) (z t i filled : ℕ) (vec by member : List ℕ) : Type 0 where
+  pub slots : Slots filled vec by member
+  pub basis : Basis productBits (Had marks ys z t i) (column maxWires z t) (pairTag marks z) (held filled vec) by member
 
-pub asked-start : {marks ys : List ℕ} {z t m : ℕ} {vec₀ vec by member : List ℕ} → Slots vec₀ by member → Emptied m vec
-    → Asked marks ys z t m 0 vec by member
-asked-start {marks} {ys} {z} {t} {m} {vec₀} {vec} {by} {member} slots e =
+-- none was, and no slot is filled
+pub asked-start : {marks ys : List ℕ} {z t : ℕ} {vec by member : List ℕ} → Places vec by member → Asked marks ys z t 0 0 vec by member
+asked-start {marks} {ys} {z} {t} {vec} {by} {member} p =
     record {
-      slots = record { shape = e .shape; by-long = slots .by-long; members = slots .members };
+      slots = record { masked = masked-none vec (p .vec-long); by-long = p .by-long; members = p .members };
       basis =
-          λ some. rw (e .empty some)
+          rw (held-none vec, p .vec-long)
           (basis-none productBits (column maxWires z t) (pairTag marks z) (Had marks ys z t 0) by member (λ y h. omega (arith, h .1)));
     }
 
-module _ {marks ys : List ℕ} {z t m i a b v : ℕ} {vec by member : List ℕ} (all : Members marks ys) (h : Asked marks ys z t m i vec by member)
-    (l : i < m) (T : TurnOf marks ys z t i a) (b-is : b ≡ bitXor a z) (v-is : v ≡ column maxWires z t a) where
+module _ {marks ys : List ℕ} {z t i a b v filled : ℕ} {vec by member : List ℕ} (all : Members marks ys)
+    (h : Asked marks ys z t i filled vec by member) (T : TurnOf marks ys z t i a) (b-is : b ≡ bitXor a z) (v-is : v ≡ column maxWires z t a) where
   z-is : bitXor a b ≡ z
   z-is = ap (bitXor a) b-is ∙ partner-back a z
-
-  basis : Basis productBits (Had marks ys z t i) (column maxWires z t) (pairTag marks z) vec by member
-  basis = h .basis (omega arith)
 
   a-stands : a ≢ 0 → Stands marks z t a
   a-stands some = T .its some .stands
 
   -- it offered nothing
-  pub asked-next : {vec′ by′ member′ : List ℕ} → Passed marks a b v vec by member vec′ by′ member′
-      → Asked marks ys z t m (i + 1) vec′ by′ member′
-  asked-next (inl (none, same)) =
-      rw (same .vec-is, same .by-is, same .member-is) (record {
+  pub asked-next : {filled′ : ℕ} {vec′ by′ member′ : List ℕ} → Passes marks a b v filled vec by member filled′ vec′ by′ member′
+      → Asked marks ys z t (i + 1) filled′ vec′ by′ member′
+  asked-next (inl (none, (e, same))) =
+      rw (e, same .vec-is, same .by-is, same .member-is) (record {
         slots = h .slots;
         basis =
-            λ some. basis-same productBits (column maxWires z t) (pairTag marks z) (Had marks ys z t i) (Had marks ys z t (i + 1)) vec by
-            member had-wider basis (had-none T (all .sound) none);
+            basis-same productBits (column maxWires z t) (pairTag marks z) (Had marks ys z t i) (Had marks ys z t (i + 1)) (held filled vec)
+            by member had-wider (h .basis) (had-none T (all .sound) none);
       })
   asked-next (inr (inl (some, o))) =
       record {
         slots = opened-slots (h .slots) (member-lt parities maxWires marks (all .sound) a (a-stands some .member)) o;
         basis =
-            λ asked. rw (o .slot .vec-is, o .by-is, o .member-is)
-            (basis-more productBits (column maxWires z t) (pairTag marks z) (Had marks ys z t i) (Had marks ys z t (i + 1)) vec by member
-            had-wider basis a (had-last T) (had-new T some) (o .slot .s) (o .slot .left) (o .slot .used) (h .slots .by-long)
+            rw (o .slot .vec-is, o .by-is, o .member-is)
+            (basis-more productBits (column maxWires z t) (pairTag marks z) (Had marks ys z t i) (Had marks ys z t (i + 1)) (held filled vec)
+            by member had-wider (h .basis) a (had-last T) (had-new T some) (o .slot .s) (o .slot .left) (o .slot .used) (h .slots .by-long)
             (h .slots .members .long) (rw v-is at (o .slot .stopped)));
       }
-  asked-next (inr (inr (some, u, same))) =
-      rw (same .vec-is, same .by-is, same .member-is) (record {
+  asked-next (inr (inr (some, u, (e, same)))) =
+      rw (e, same .vec-is, same .by-is, same .member-is) (record {
         slots = h .slots;
         basis =
-            λ asked. basis-had productBits (column maxWires z t) (pairTag marks z) (Had marks ys z t i) (Had marks ys z t (i + 1)) vec by
-            member had-wider basis a (had-last T)
-            (passed parities maxWires (le-refl _) marks (all .sound) z t productBits (Had marks ys z t i) had-stands vec by member basis
-            (h .slots .members .long) a (a-stands some) (u .used) (rw v-is at (u .reached)) (rw z-is at (u .none)));
+            basis-had productBits (column maxWires z t) (pairTag marks z) (Had marks ys z t i) (Had marks ys z t (i + 1)) (held filled vec)
+            by member had-wider (h .basis) a (had-last T)
+            (passed parities maxWires (le-refl _) marks (all .sound) z t productBits (Had marks ys z t i) had-stands (held filled vec) by
+            member (h .basis) (h .slots .members .long) a (a-stands some) (u .used) (rw v-is at (u .reached)) (rw z-is at (u .none)));
       })
 
   -- it offered the set of a move, which is legal; and none below z is
   pub offered-smallest : {cells : List ℕ} → t < maxWires → z < parities → bit z t ≡ 1 → NoneBelow maxMembers maxWires marks z
-      → Offered marks a b v vec by member cells → SmallestCells maxMembers maxWires marks cells
+      → Offered marks a b v filled vec by member cells → SmallestCells maxMembers maxWires marks cells
   offered-smallest {cells} t-lt z-lt z-t below o =
       record {
         legal = record { z = z; Y = Y; is = move .is; legal = legal };
@@ -126,25 +126,21 @@ module _ {marks ys : List ℕ} {z t m i a b v : ℕ} {vec by member : List ℕ} 
 
       legal : Legal maxMembers maxWires marks z Y
       legal =
-          found parities maxWires (le-refl _) marks (all .sound) z t productBits (Had marks ys z t i) had-stands vec by member basis
-          (h .slots .members .long) a (a-stands (o .some)) (o .used) (rw v-is at (o .reached)) maxMembers (omega arith) t-lt z-lt z-t
-          (move .y) (move .pair)
+          found parities maxWires (le-refl _) marks (all .sound) z t productBits (Had marks ys z t i) had-stands (held filled vec) by member
+          (h .basis) (h .slots .members .long) a (a-stands (o .some)) (o .used) (rw v-is at (o .reached)) maxMembers (omega arith) t-lt z-lt
+          z-t (move .y) (move .pair)
 
 -- ---- all columns of one z
 
-pub z-passed : {marks ys : List ℕ} {z t m : ℕ} {vec by member : List ℕ} → Members marks ys → t < maxWires → bit z t ≡ 1
-    → ToAsk marks ys z m → Asked marks ys z t m m vec by member → NoneWith marks z
-z-passed {marks} {ys} {z} {t} {m} {vec} all t-lt z-t ask h Y legal = go (ask .all)
+pub z-passed : {marks ys : List ℕ} {z t m filled : ℕ} {vec by member : List ℕ} → Members marks ys → t < maxWires → bit z t ≡ 1
+    → ToAsk marks ys z m → Asked marks ys z t m filled vec by member → NoneWith marks z
+z-passed {marks} {ys} {z} {t} {m} {filled} {vec} all t-lt z-t ask h Y legal = go (ask .all)
   where
-    some : 0 < length ys
-    some = let s = legal .separates in
-        let i = all .listed (s .a) (legal .marked (s .a) (s .a-in)) in omega (arith, i .1)
-
     go : (m ≡ 2 * length ys) ⊎ NoneWith marks z → ⊥
     go (inl e) =
         z-none parities maxWires maxMembers (le-refl _) marks (all .sound) z t t-lt z-t
-        (λ W stand. covers-tags productBits (column maxWires z t) (pairTag marks z) (Had marks ys z t m) vec
-        (h .basis (omega (arith, some)) .covers) W (λ i l. rw e (had-all all (getD W i 0) (stand i l)))) Y legal
+        (λ W stand. covers-tags productBits (column maxWires z t) (pairTag marks z) (Had marks ys z t m) (held filled vec)
+        (h .basis .covers) W (λ i l. rw e (had-all all (getD W i 0) (stand i l)))) Y legal
     go (inr never) = never Y legal
 
 -- ---- all z with highest wire t

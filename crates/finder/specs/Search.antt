@@ -1,11 +1,10 @@
 -- What the finder's parts promise.
 use mathlib.Core.List.{List}
 use mathlib.Core.Path.{_≡_}
-use Prim.Native.Nat.{_<_, _≤_, ℕ}
-use lib.ListN.{length, replicate, take}
-use Rattle.circuit.specs.Limits.{maxMembers, maxWires, parities, productBits}
+use Prim.Native.Nat.{_≤_, ℕ}
+use lib.ListN.{length, take}
+use Rattle.circuit.specs.Limits.{maxMembers, maxWires, parities}
 use Rattle.circuit.specs.Sound.{weight}
-use Rattle.gf2.specs.Echelon.{Shape}
 use Rattle.moves.specs.Log.{SmallestCells}
 use Rattle.moves.specs.Move.{NoneBelow, NoneLegal}
 use Rattle.moves.specs.Sets.{listed}
@@ -17,11 +16,6 @@ pub record Gathered (size : ℕ) (marks list : List ℕ) (count : ℕ) : Type 0 
   pub fits : count ≤ parities
   pub long : length list ≡ parities
   pub are : take count list ≡ listed size (weight marks)
-
--- the slots, emptied if m columns are to be asked and m is not 0
-pub record Emptied (m : ℕ) (vec : List ℕ) : Type 0 where
-  pub shape : Shape productBits vec
-  pub empty : 0 < m → vec ≡ replicate productBits 0
 
 -- on all wires: a legal move with the smallest z is written, or none is legal with a z below `size`
 abbrev pub Scanned : ℕ → List ℕ → List ℕ → List ℕ → Sought → Type 0

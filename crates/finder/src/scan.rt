@@ -2,12 +2,11 @@
 ghost use mathlib.Core.Path.{_≡_};
 ghost use Prim.Native.Nat.{_<_, _^_, _≤_, suc};
 ghost use lib.ListN.{length};
-ghost use Rattle.circuit.specs.Limits.{maxMembers, maxWires, moveCells, productBits};
+ghost use Rattle.circuit.specs.Limits.{maxMembers, maxWires, moveCells};
 ghost use Rattle.columns.specs.Table.{ProductTable};
-ghost use Rattle.gf2.specs.Echelon.{Shape};
 ghost use Rattle.moves.specs.Move.{NoneBelow};
 ghost use Rattle.finder.specs.OneZ.{Members};
-ghost use Rattle.finder.specs.Search.{Emptied, Scanned};
+ghost use Rattle.finder.specs.Search.{Scanned};
 use crate::halves::half_of;
 use crate::halves::to_ask;
 use crate::turns::turn;
@@ -17,6 +16,8 @@ use circuit::limits::PARITIES;
 use circuit::limits::PRODUCT_BITS;
 use circuit::limits::Parity;
 use columns::column;
+use kernel::Answer;
+use kernel::Asked;
 use kernel::offer;
 use moves::Sought;
 
@@ -71,28 +72,24 @@ fn scan_wire(
     'search: for k in low..low + low {
         let z = k as Parity;
         let m = to_ask(products, marks, ys, z, t, half, &mut room);
-        empty(m, &mut vec);
+        let mut filled: u64 = 0;
         for i in 0..m {
             let a = turn(marks, ys, z, t, i);
             let b = a ^ z;
-            let v = column(products, z, t, a);
-            let got = offer(marks, a, b, v, &mut vec, &mut by, &mut member, cells);
-            if let Sought::Found = got {
-                best = got;
-                break 'search;
+            let asked = Asked {
+                v: column(products, z, t, a),
+                filled: filled,
+            };
+            match offer(marks, a, b, asked, &mut vec, &mut by, &mut member, cells) {
+                Answer::Found => {
+                    best = Sought::Found;
+                    break 'search;
+                }
+                Answer::Passed { filled: more } => {
+                    filled = more;
+                }
             }
         }
     }
     best
-}
-
-// Empties the slots, if there is a column to be asked.
-fn empty(m: usize, vec: &mut [u64; PRODUCT_BITS])
-    requires { ⌜ Shape productBits (now vec) ⌝ }
-    ensures { λ _. ⌜ Emptied m (now (vec .exit)) ⌝ }
-{
-    if m == 0 {
-        return;
-    }
-    *vec = [0u64; PRODUCT_BITS];
 }

@@ -19,35 +19,49 @@ use echelon::insert;
 use moves::Sought;
 use naming::write_move;
 
-// Whether the column v of a offers a separating set for z = a ^ b: where it is a combination of the columns in the slots, and these and a
-// have one of a pair among them. Then the move is written. A column that is no combination goes in.
+// The column that is asked, and the mask of the slots that are filled by those before it.
+pub struct Asked {
+    pub v: u64,
+    pub filled: u64,
+}
+
+// What a column offers.
+pub enum Answer {
+    // The set of a legal move, whose cells are written.
+    Found,
+    // Nothing; and the mask of the slots with it.
+    Passed { filled: u64 },
+}
+
+// Whether the column of a offers a separating set for z = a ^ b: where it is a combination of the columns in the slots, and these and a have
+// one of a pair among them. Then the move is written. A column that is no combination goes in.
 pub fn offer(
     marks: &[Mark],
     a: Parity,
     b: Parity,
-    v: u64,
+    column: Asked,
     vec: &mut [u64; PRODUCT_BITS],
     by: &mut [u64; PRODUCT_BITS],
     member: &mut [Parity; PRODUCT_BITS],
     cells: &mut [MoveCell],
-) -> Sought
-    requires { ⌜ (length (now marks) ≡ tableBytes) × (a < parities) × (b < parities) × (v < 2 ^ productBits) ⌝ }
-    requires { ⌜ Slots (now vec) (now by) (now member) × (length (now cells) ≡ moveCells) ⌝ }
-    ensures { λ r. ⌜ Offers (now (marks .entry)) a b v (now (vec .entry)) (now (by .entry)) (now (member .entry)) (now (cells .entry))
-        (now (vec .exit)) (now (by .exit)) (now (member .exit)) (now (cells .exit)) r ⌝ }
+) -> Answer
+    requires { ⌜ (length (now marks) ≡ tableBytes) × (a < parities) × (b < parities) × (column .v < 2 ^ productBits) ⌝ }
+    requires { ⌜ Slots (column .filled) (now vec) (now by) (now member) × (length (now cells) ≡ moveCells) ⌝ }
+    ensures { λ r. ⌜ Offers (now (marks .entry)) a b (column .v) (column .filled) (now (vec .entry)) (now (by .entry)) (now (member .entry))
+        (now (cells .entry)) (now (vec .exit)) (now (by .exit)) (now (member .exit)) (now (cells .exit)) r ⌝ }
 {
+    let filled = column.filled;
     if a == 0 {
-        return Sought::Nothing;
+        return Answer::Passed { filled: filled };
     }
-    match insert(a, v, vec, by, member) {
-        Inserted::Dependent { used } => write_move(
-            marks,
-            a ^ b,
-            a,
-            by_members(used, by),
-            member,
-            cells,
-        ),
-        Inserted::Opened => Sought::Nothing,
+    match insert(a, column.v, filled, vec, by, member) {
+        Inserted::Dependent { used } => {
+            let got = write_move(marks, a ^ b, a, by_members(used, by), member, cells);
+            match got {
+                Sought::Found => Answer::Found,
+                Sought::Nothing => Answer::Passed { filled: filled },
+            }
+        }
+        Inserted::Opened { filled: more } => Answer::Passed { filled: more },
     }
 }

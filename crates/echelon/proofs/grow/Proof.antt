@@ -8,7 +8,7 @@ use denote.Ref.{now}
 use Rattle.circuit.specs.Limits.{productBits}
 use Rattle.gf2.proofs.Echelon.{reached-start}
 use Rattle.gf2.specs.Echelon.{Reached, held}
-use Rattle.echelon.proofs.Masks.{grown, masked-falls, masked-takes, not-grown}
+use Rattle.echelon.proofs.Masks.{grown, masked-falls, masked-takes, not-grown, off, stopped}
 use Rattle.echelon.proofs.grow.Statement.{statement}
 use Rattle.echelon.proofs.grow.Tie as tie
 
@@ -52,7 +52,9 @@ returns c =
     let slot : Slot = search in
     let at : Head = search in
     let s : Entry = search in
-    rw (at .loop .inv .0) (grown (s .pre .0) (slot .leading .ensures) (empty .if1 .taken) (at .loop .inv .2 .1))
+    let b = slot .leading .ensures in
+    rw (at .loop .inv .0)
+    (grown (s .pre .0) (off (s .pre .0) b (empty .if1 .taken)) (stopped (s .pre .0) b (empty .if1 .taken) (at .loop .inv .2 .1)))
 
 mul-left : tie.Need-mul-left Inv-loop μ-loop
 mul-left c = let slot : Slot = search in record { fits = omega (arith, slot .leading .ensures .slot) }

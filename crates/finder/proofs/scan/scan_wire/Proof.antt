@@ -9,27 +9,26 @@ use borrow.Author.Needs.{needs}
 use denote.Ref.{now}
 use Rattle.circuit.proofs.Steps.{shifted}
 use Rattle.circuit.specs.Limits.{maxMembers, maxWires, parities}
-use Rattle.echelon.specs.Slots.{Slots}
 use Rattle.moves.specs.Move.{NoneBelow}
 use Rattle.moves.specs.declared.Sought.the-variants.{Nothing}
 use Rattle.finder.proofs.Apart.{half-kept}
-use Rattle.finder.proofs.Asking.{Asked, HighestWire, asked-next, asked-start, empty-slots, highest-wire, none-below-more}
-use Rattle.finder.proofs.Asking.{offered-smallest, z-passed}
+use Rattle.finder.proofs.Asking.{Asked, HighestWire, Places, asked-next, asked-start, highest-wire, no-members, none-below-more}
+use Rattle.finder.proofs.Asking.{offered-smallest, slot-places, z-passed}
 use Rattle.finder.proofs.InTurn.{members-below, turn-below}
 use Rattle.finder.specs.Halves.{HalfIn}
 use Rattle.finder.proofs.scan.scan_wire.Statement.{statement}
 use Rattle.finder.proofs.scan.scan_wire.Tie as tie
 
 abbrev Inv-loop : tie.InvT-loop
-Inv-loop most products marks ys t cells₀ room half vec₀ by₀ member₀ best₀ low k z m i₀ k-end cells vec by member best i =
-    (best ≡ Nothing) × (cells ≡ cells₀) × (i ≤ m) × Asked marks ys z t m i vec by member
+Inv-loop most products marks ys t cells₀ room half vec₀ by₀ member₀ best₀ low k z m filled₀ i₀ k-end cells vec by member best filled i =
+    (best ≡ Nothing) × (cells ≡ cells₀) × (i ≤ m) × Asked marks ys z t i filled vec by member
 
 abbrev μ-loop : tie.MeasureT-loop
-μ-loop most products marks ys t cells₀ room half vec₀ by₀ member₀ best₀ low k z m i₀ k-end cells vec by member best i = m - i
+μ-loop most products marks ys t cells₀ room half vec₀ by₀ member₀ best₀ low k z m filled₀ i₀ k-end cells vec by member best filled i = m - i
 
 abbrev Inv-search : tie.InvT-search
 Inv-search most products marks ys t cells₀ room₀ half vec₀ by₀ member₀ best₀ low k₀ k-end cells room vec by member best k =
-    (best ≡ Nothing) × (cells ≡ cells₀) × (2 ^ t ≤ k) × Slots vec by member × NoneBelow maxMembers maxWires marks k
+    (best ≡ Nothing) × (cells ≡ cells₀) × (2 ^ t ≤ k) × Places vec by member × NoneBelow maxMembers maxWires marks k
     × HalfIn ys t (half .apart) (half .filled) room
 
 abbrev μ-search : tie.MeasureT-search
@@ -61,10 +60,14 @@ search-holds : tie.Need-search-holds Inv-loop μ-loop Inv-search μ-search
 search-holds c =
     let h : tie.After-half-of Inv-loop μ-loop Inv-search μ-search = search in
     let s : Entry = search in
-    (refl, refl, omega (arith, low-is s), empty-slots, rw (low-is s) (s .pre .1 .1 .0), h .half-of .ensures)
+    (refl, refl, omega (arith, low-is s), record { vec-long = refl; by-long = refl; members = no-members }, rw (low-is s) (s .pre .1 .1 .0), h .half-of .ensures)
 
 abbrev entry : Outer → Entry
 entry up = search
+
+-- the loop over z, seen from that over the turns
+abbrev outer : Inner → Outer
+outer at = search
 
 -- a turn of the loop over z
 abbrev Turning : Type 0
@@ -87,14 +90,8 @@ to-ask-requires c κs =
     let s = entry (head u) in
     (s .pre .0, (s .pre .1 .0 .0, ((s .pre .1 .0 .1, wire u .below, wire u .names), head u .search .inv .5)))
 
-empty-requires : tie.Need-empty-requires Inv-loop μ-loop Inv-search μ-search
-empty-requires c κs = let up : Outer = search in up .search .inv .3 .shape
-
 loop-holds : tie.Need-loop-holds Inv-loop μ-loop Inv-search μ-search
-loop-holds c =
-    let e : tie.After-empty Inv-loop μ-loop Inv-search μ-search = search in
-    let up : Outer = search in
-    (up .search .inv .0, refl, omega arith, asked-start (up .search .inv .3) (e .empty .ensures))
+loop-holds c = let up : Outer = search in (up .search .inv .0, refl, omega arith, asked-start (up .search .inv .3))
 
 turn-requires : tie.Need-turn-requires Inv-loop μ-loop Inv-search μ-search
 turn-requires c κs =
@@ -125,17 +122,17 @@ offer-requires c κs =
 
 loop-again : tie.Need-loop-again Inv-loop μ-loop Inv-search μ-search
 loop-again c =
+    let more : tie.After-more Inv-loop μ-loop Inv-search μ-search = search in
     let o : tie.After-offer Inv-loop μ-loop Inv-search μ-search = search in
     let v : tie.After-column Inv-loop μ-loop Inv-search μ-search = search in
     let a : tie.After-turn Inv-loop μ-loop Inv-search μ-search = search in
     let at : Inner = search in
-    let up : Outer = search in
-    let s = entry up in
-    let t = rw (c .enum-told2 .given .1) at (o .offer .ensures) in (
+    let s = entry (outer at) in
+    let t = rw (more .more .given .1) at (o .offer .ensures) in (
       at .loop .inv .0,
       t .0 ∙ at .loop .inv .1,
       omega arith,
-      asked-next (s .pre .1 .0 .0) (at .loop .inv .3) (omega arith) (a .turn .ensures) refl (v .column .ensures .0) (t .1),
+      asked-next (s .pre .1 .0 .0) (at .loop .inv .3) (a .turn .ensures) refl (v .column .ensures .0) (t .1),
     )
 
 add-k : tie.Need-add-k Inv-loop μ-loop Inv-search μ-search
@@ -152,7 +149,7 @@ search-again c =
       at .loop .inv .0,
       at .loop .inv .1 ∙ up .search .inv .1,
       omega (arith, up .search .inv .2),
-      at .loop .inv .3 .slots,
+      slot-places (at .loop .inv .3 .slots),
       none-below-more _ (up .search .inv .4)
           (z-passed (s .pre .1 .0 .0) (s .pre .1 .0 .1) (wire u .names) (ask .to-ask .ensures .0) (rw e at (at .loop .inv .3))),
       half-kept (up .search .inv .5) (ask .to-ask .ensures .1),
@@ -183,10 +180,8 @@ returns-2 c =
     let u : Turning = search in
     let up : Outer = search in
     let s = entry up in
-    let e = c .enum-told .given .1 in
-    rw e
-    (offered-smallest (s .pre .1 .0 .0) (at .loop .inv .3) (omega arith) (a .turn .ensures) refl (v .column .ensures .0) (s .pre .1 .0 .1)
-    (wire u .below) (wire u .names) (up .search .inv .4) (rw e at (o .offer .ensures)))
+    offered-smallest (s .pre .1 .0 .0) (at .loop .inv .3) (a .turn .ensures) refl (v .column .ensures .0) (s .pre .1 .0 .1)
+    (wire u .below) (wire u .names) (up .search .inv .4) (rw (c .enum-told .given .1) at (o .offer .ensures))
 
 pub scan-wire-spec : {M : Type 1} → statement M
 scan-wire-spec =
@@ -202,7 +197,6 @@ scan-wire-spec =
     search-holds
     cast-z
     to-ask-requires
-    empty-requires
     loop-holds
     turn-requires
     column-requires
