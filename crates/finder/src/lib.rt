@@ -5,6 +5,7 @@ ghost use mathlib.Core.Path.{_≡_};
 ghost use lib.ListN.{length};
 ghost use Rattle.circuit.specs.Limits.{moveCells};
 ghost use Rattle.circuit.specs.TableFaults.{Marked};
+ghost use Rattle.columns.specs.Table.{ProductTable};
 ghost use Rattle.finder.specs.Entry.{FindMove};
 ghost use Rattle.finder.specs.Search.{Searched};
 
@@ -52,16 +53,31 @@ pub fn find(n: usize, marks: &[Mark], cells: &mut [MoveCell]) -> Finding
     }
 }
 
-// The search for n wires, for marks without a fault: the product table is made and the members are gathered once, so that the scan reads
-// the one and goes through the others alone. Internal: the caller has found the marks sound. It is public for the trim, which has proved
-// its marks sound and need not have them judged again before each move.
-pub fn search(n: usize, marks: &[Mark], cells: &mut [MoveCell]) -> Sought
+// The search for n wires, for marks without a fault. The product table is made once, so that the scan only reads it.
+fn search(n: usize, marks: &[Mark], cells: &mut [MoveCell]) -> Sought
     requires { ⌜ Marked n (now marks) ⌝ }
     requires { ⌜ length (now cells) ≡ moveCells ⌝ }
     ensures { λ r. ⌜ Searched n (now (marks .entry)) (now (cells .entry)) (now (cells .exit)) r ⌝ }
 {
     let table = products();
+    search_by(&table, n, marks, cells)
+}
+
+// The search with the product table lent: the members are gathered once, so that the scan goes through them alone. Internal: the caller has
+// found the marks sound. It is public for the trim, which has proved its marks sound and need not have them judged again before each move,
+// and which makes the table once for all moves.
+pub fn search_by(
+    products: &[u64; PARITIES],
+    n: usize,
+    marks: &[Mark],
+    cells: &mut [MoveCell],
+) -> Sought
+    requires { ⌜ ProductTable (now products) ⌝ }
+    requires { ⌜ Marked n (now marks) ⌝ }
+    requires { ⌜ length (now cells) ≡ moveCells ⌝ }
+    ensures { λ r. ⌜ Searched n (now (marks .entry)) (now (cells .entry)) (now (cells .exit)) r ⌝ }
+{
     let mut list = [0 as Parity; PARITIES];
     let count = gather(1 << n, marks, &mut list);
-    scan(n, &table, marks, part(&list, 0, count), cells)
+    scan(n, products, marks, part(&list, 0, count), cells)
 }

@@ -4,6 +4,7 @@ ghost use Prim.Native.Nat.{_≤_};
 ghost use lib.ListN.{length};
 ghost use Rattle.circuit.specs.Limits.{logCells};
 ghost use Rattle.circuit.specs.TableFaults.{Marked};
+ghost use Rattle.columns.specs.Table.{ProductTable};
 ghost use Rattle.trimmer.specs.Steps.{AllMade, NextMove, Stepped, ToMake};
 use crate::steps::moved;
 use crate::steps::next_move;
@@ -11,7 +12,9 @@ use circuit::copying::put_parities;
 use circuit::limits::MOVE_CELLS;
 use circuit::limits::Mark;
 use circuit::limits::MoveCell;
+use circuit::limits::PARITIES;
 use circuit::limits::TABLE_BYTES;
+use columns::table::products;
 use moves::Sought;
 
 // The marks after the moves so far and their number, and what a search found for these marks.
@@ -22,12 +25,13 @@ pub struct Moving {
     pub cells: [MoveCell; MOVE_CELLS],
 }
 
-// Makes moves on the marks until none is legal, and writes each to the log.
+// Makes moves on the marks until none is legal, and writes each to the log. The product table is made once for all searches.
 pub fn make_moves(n: usize, first: [Mark; TABLE_BYTES], log: &mut [MoveCell]) -> Moving
     requires { ⌜ Marked n first × (logCells ≤ length (now log)) ⌝ }
     ensures { λ r. ⌜ AllMade n first (now (log .entry)) (r .count) (r .marks) (now (log .exit)) ⌝ }
 {
-    let mut s = before_moves(n, first);
+    let table = products();
+    let mut s = before_moves(&table, n, first);
     loop {
         let found = s.found;
         if let Sought::Nothing = found {
@@ -36,16 +40,16 @@ pub fn make_moves(n: usize, first: [Mark; TABLE_BYTES], log: &mut [MoveCell]) ->
         let cells = s.cells;
         let k = s.count;
         put_parities(&cells, log, MOVE_CELLS * k);
-        s = make_move(n, s);
+        s = make_move(&table, n, s);
     }
 }
 
 // No move made yet.
-fn before_moves(n: usize, first: [Mark; TABLE_BYTES]) -> Moving
-    requires { ⌜ Marked n first ⌝ }
+fn before_moves(products: &[u64; PARITIES], n: usize, first: [Mark; TABLE_BYTES]) -> Moving
+    requires { ⌜ ProductTable (now products) × Marked n first ⌝ }
     ensures { λ r. ⌜ (r .marks ≡ first) × (r .count ≡ 0) × NextMove n (r .marks) (r .found) (r .cells) ⌝ }
 {
-    let next = next_move(n, first);
+    let next = next_move(products, n, first);
     let found = next.found;
     let cells = next.cells;
     Moving {
@@ -57,14 +61,14 @@ fn before_moves(n: usize, first: [Mark; TABLE_BYTES]) -> Moving
 }
 
 // The move that was found, carried out; and what is found then.
-fn make_move(n: usize, s: Moving) -> Moving
-    requires { ⌜ ToMake n (s .marks) (s .found) (s .cells) (s .count) ⌝ }
+fn make_move(products: &[u64; PARITIES], n: usize, s: Moving) -> Moving
+    requires { ⌜ ProductTable (now products) × ToMake n (s .marks) (s .found) (s .cells) (s .count) ⌝ }
     ensures { λ r. ⌜ Stepped n (s .marks) (s .cells) (s .count) (r .marks) (r .count) (r .found) (r .cells) ⌝ }
 {
     let marks = s.marks;
     let cells = s.cells;
     let left = moved(n, marks, cells);
-    let next = next_move(n, left);
+    let next = next_move(products, n, left);
     let found = next.found;
     let more = next.cells;
     Moving {

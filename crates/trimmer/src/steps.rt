@@ -6,6 +6,7 @@ ghost use Rattle.circuit.specs.OddSet.{oddSet};
 ghost use Rattle.circuit.specs.Limits.{parities};
 ghost use Rattle.circuit.specs.Sound.{SoundWeights};
 ghost use Rattle.circuit.specs.TableFaults.{Marked};
+ghost use Rattle.columns.specs.Table.{ProductTable};
 ghost use lib.ListN.{length};
 ghost use Rattle.moves.specs.CarryOut.{carryOut};
 ghost use Rattle.moves.specs.Log.{LegalCells, setOf, zOf};
@@ -19,11 +20,12 @@ use circuit::cells::cell_at;
 use circuit::limits::MOVE_CELLS;
 use circuit::limits::Mark;
 use circuit::limits::MoveCell;
+use circuit::limits::PARITIES;
 use circuit::limits::Parity;
 use circuit::limits::ROW_CELLS;
 use circuit::limits::TABLE_BYTES;
 use circuit::limits::Weight;
-use finder::search;
+use finder::search_by;
 use moves::Sought;
 use rests::weighing::put_new_weights;
 use synth::write_sound;
@@ -74,12 +76,12 @@ pub struct Next {
 }
 
 // A legal move with the smallest z for sound marks, if there is one.
-pub fn next_move(n: usize, marks: [Mark; TABLE_BYTES]) -> Next
-    requires { ⌜ Marked n marks ⌝ }
+pub fn next_move(products: &[u64; PARITIES], n: usize, marks: [Mark; TABLE_BYTES]) -> Next
+    requires { ⌜ ProductTable (now products) × Marked n marks ⌝ }
     ensures { λ r. ⌜ NextMove n marks (r .found) (r .cells) ⌝ }
 {
     let mut cells = [0 as MoveCell; MOVE_CELLS];
-    let found = search(n, &marks, &mut cells);
+    let found = search_by(products, n, &marks, &mut cells);
     Next {
         found: found,
         cells: cells,

@@ -14,10 +14,10 @@ use Rattle.trimmer.proofs.moving.make_moves.Statement.{statement}
 use Rattle.trimmer.proofs.moving.make_moves.Tie as tie
 
 abbrev Inv-loop : tie.InvT-loop
-Inv-loop n log₀ s₀ log s = Turn n (s₀ .marks) log₀ (s .count) (s .marks) log × NextMove n (s .marks) (s .found) (s .cells)
+Inv-loop n log₀ table s₀ log s = Turn n (s₀ .marks) log₀ (s .count) (s .marks) log × NextMove n (s .marks) (s .found) (s .cells)
 
 abbrev μ-loop : tie.MeasureT-loop
-μ-loop n log₀ s₀ log s = memberCount (s .marks)
+μ-loop n log₀ table s₀ log s = memberCount (s .marks)
 
 loop-holds : tie.Need-loop-holds Inv-loop μ-loop
 loop-holds c =
@@ -73,13 +73,16 @@ make-move-requires : tie.Need-make-move-requires Inv-loop μ-loop
 make-move-requires c κs =
     let some : Some = search in
     let at : tie.At-loop Inv-loop μ-loop = search in
-    let e = some .enum-told2 .given .1 in
-    record {
-      marked = still-marked (at .loop .inv .0);
-      next = at .loop .inv .1;
-      is-found = e;
-      counted = few-moves (at .loop .inv .0) (next-found e (at .loop .inv .1));
-    }
+    let t : tie.After-products Inv-loop μ-loop = search in
+    let e = some .enum-told2 .given .1 in (
+      t .products .ensures,
+      record {
+        marked = still-marked (at .loop .inv .0);
+        next = at .loop .inv .1;
+        is-found = e;
+        counted = few-moves (at .loop .inv .0) (next-found e (at .loop .inv .1));
+      },
+    )
 
 loop-less : tie.Need-loop-less Inv-loop μ-loop
 loop-less c =
@@ -112,6 +115,7 @@ make-moves-spec =
     (tie.spec
     Inv-loop
     μ-loop
+    (λ c κs. search needs)
     (λ c κs. search needs)
     loop-holds
     (λ c. search needs)

@@ -8,9 +8,9 @@ use Rattle.trimmer.proofs.steps.next_move.Tie as tie
 
 returns : tie.Need-returns
 returns c =
-    let f : tie.After-search = search in
+    let f : tie.After-search-by = search in
     let s : tie.Start = search in
-    searched-next _ _ (replicate moveCells 0) _ (f .search .result) (f .search .ensures)
+    searched-next _ _ (replicate moveCells 0) _ (f .search-by .result) (f .search-by .ensures)
 
 pub next-move-spec : {M : Type 1} → statement M
 next-move-spec = tie.close (tie.spec (λ c. search needs) (λ c. search needs) (λ c κs. search needs) returns)
