@@ -1,7 +1,6 @@
 -- The column that code computes; and for fewer wires than the table has room for, the column is the same.
-use mathlib.Core.Path.{_∙_, _≡_, sym}
+use mathlib.Core.Path.{_≡_}
 use Prim.Native.Nat.{_<_, _^_, _≤_, ℕ}
-use lib.Bits.{bitXor}
 use Rattle.circuit.specs.Limits.{maxWires, productBits}
 use Rattle.moves.proofs.OneXor.{bar-lt}
 use Rattle.moves.proofs.Products.{product-wires}

@@ -1,22 +1,22 @@
 -- The steps of `grow` on the slots that a mask names.
 use mathlib.Core.List.{List}
-use mathlib.Core.Logic.{_≢_, _⊎_, inl, inr}
+use mathlib.Core.Logic.{_≢_}
 use mathlib.Core.Path.{_∙_, _≡_, ap, refl, sym}
-use Prim.Native.Nat.{_%_, _*_, _+_, _/_, _<_, _^_, _≤_, ℕ}
+use Prim.Native.Nat.{_%_, _*_, _/_, _<_, _^_, ℕ}
 use native.Mathlib.Decide.{ℕ-discrete}
 use native.Mathlib.Omega.{arith}
 use lib.Bits.{bitXor}
-use lib.ListN.{getD, length, replicate, set}
+use lib.ListN.{getD, length, set}
 use lib.Pow.{pow-pos}
 use lib.Seq.{getD-set-other, getD-set-same}
 use Rattle.circuit.proofs.Steps.{shifted}
 use Rattle.circuit.specs.Limits.{productBits}
 use Rattle.gf2.proofs.Basis.{covers-none}
-use Rattle.gf2.proofs.Bit.{bit-lt, bit-of-zero, bit-pow-same, bit-xor}
+use Rattle.gf2.proofs.Bit.{bit-of-zero}
 use Rattle.gf2.proofs.Echelon.{filled-shape}
 use Rattle.gf2.proofs.Held.{held-long, held-none, held-off, held-on, held-put, other, still-named, unseen-put}
 use Rattle.gf2.specs.Bit.{bit}
-use Rattle.gf2.specs.Echelon.{Reached, Shape, Stopped, held}
+use Rattle.gf2.specs.Echelon.{Reached, Stopped, held}
 use Rattle.echelon.proofs.Slots.{falls, stops, taken}
 use Rattle.echelon.specs.Slots.{Grows, LeadingBit, Masked}
 

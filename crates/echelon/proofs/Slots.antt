@@ -2,7 +2,7 @@
 use mathlib.Core.List.{List}
 use mathlib.Core.Logic.{_≢_}
 use mathlib.Core.Path.{_∙_, _≡_, ap, refl, sym}
-use Prim.Native.Nat.{_%_, _*_, _+_, _-_, _/_, _<_, _^_, _≤_, suc, ℕ}
+use Prim.Native.Nat.{_%_, _+_, _-_, _/_, _<_, _^_, _≤_, suc, ℕ}
 use native.Mathlib.Decide.{decLt, ℕ-discrete}
 use native.Mathlib.Omega.{arith}
 use lib.Bits.{bitXor}
@@ -10,14 +10,13 @@ use lib.Count.{leading-top, leadingZeros}
 use lib.ListN.{getD, length, length-set, set}
 use lib.Pow.{pow-mono}
 use lib.Seq.{getD-set-other, getD-set-same}
-use Rattle.circuit.proofs.Steps.{shifted}
 use Rattle.circuit.specs.Limits.{parities, productBits}
 use Rattle.gf2.proofs.Basis.{by-off, by-on}
-use Rattle.gf2.proofs.Echelon.{filled-shape, reached-step, step-lt}
+use Rattle.gf2.proofs.Echelon.{reached-step, step-lt}
 use Rattle.gf2.specs.Bit.{bit}
 use Rattle.gf2.specs.Echelon.{Reached, Shape, Stopped, byMembers}
 use Rattle.gf2.specs.Over.{Below}
-use Rattle.echelon.specs.Slots.{LeadingBit, Opens, OpensSlot, Slots}
+use Rattle.echelon.specs.Slots.{LeadingBit, Opens, Slots}
 
 -- ---- the leading bit, from the count of zeros above it in a word of w + 1 bits
 
@@ -52,13 +51,6 @@ module _ {vec : List ℕ} {left s : ℕ} (shape : Shape productBits vec) (b : Le
   -- and the slot is among those used
   pub taken : {v used : ℕ} → getD vec s 0 ≢ 0 → Reached vec v left used → Reached vec v (bitXor left (getD vec s 0)) (bitXor used (2 ^ s))
   taken {v} {used} ne r = reached-step vec productBits v left used s shape (b .slot) (b .lo) (b .hi) ne r
-
-  -- as the machine shifts its bit
-  pub takes : {v used : ℕ} → getD vec s 0 ≢ 0 → Reached vec v left used
-      → Reached vec v (bitXor left (getD vec s 0)) (bitXor used (1 * 2 ^ s % 2 ^ 64))
-  takes {v} {used} ne r =
-      let own : 1 * 2 ^ s % 2 ^ 64 ≡ 2 ^ s = shifted 64 s (omega (arith, b .slot)) in
-      rw own (taken ne r)
 
 -- ---- a column goes in
 

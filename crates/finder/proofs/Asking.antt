@@ -2,23 +2,20 @@
 -- asked.
 use mathlib.Core.List.{List}
 use mathlib.Core.Logic.{_≢_, _⊎_, inl, inr}
-use mathlib.Core.Path.{_∙_, _≡_, ap, subst, sym}
+use mathlib.Core.Path.{_∙_, _≡_, ap}
 use Prim.Native.Nat.{_*_, _+_, _<_, _^_, _≤_, suc, ℕ}
-use native.Mathlib.Decide.{ℕ-discrete}
 use native.Mathlib.Nat.{le-refl}
 use native.Mathlib.Omega.{arith}
-use lib.Bits.{bitXor, xor-lt}
+use lib.Bits.{bitXor}
 use lib.Pow.{pow-mono}
 use lib.ListN.{getD, getD-replicate, length, length-replicate, replicate}
 use Rattle.circuit.specs.Limits.{maxMembers, maxWires, parities, productBits}
-use Rattle.circuit.specs.Sound.{SoundMarks}
 use Rattle.echelon.proofs.Masks.{masked-long, masked-none}
 use Rattle.echelon.proofs.Slots.{opened-slots}
 use Rattle.echelon.specs.Slots.{SlotMembers, Slots}
 use Rattle.gf2.proofs.Basis.{basis-had, basis-more, basis-none, basis-same, covers-tags}
 use Rattle.gf2.proofs.Held.{held-none}
 use Rattle.gf2.proofs.Leading.{bit-top}
-use Rattle.gf2.proofs.Pairing.{xor-equal}
 use Rattle.gf2.specs.Bit.{bit}
 use Rattle.gf2.specs.Echelon.{Basis, byMembers, held}
 use Rattle.moves.proofs.Finding.{found, passed}
@@ -144,25 +141,6 @@ z-passed {marks} {ys} {z} {t} {m} {filled} {vec} all t-lt z-t ask h Y legal = go
     go (inr never) = never Y legal
 
 -- ---- all z with highest wire t
-
--- the z of a legal move is not 0
-pub none-below-one : (most n : ℕ) (marks : List ℕ) → NoneBelow most n marks 1
-none-below-one most n marks z Y l = go (ℕ-discrete z 0)
-  where
-    go : Dec (z ≡ 0) → 1 ≤ z
-    go (yes e) =
-        let s = l .separates in
-        absurd (s .b-out (s .a-in .0, s .a-in .1, s .a-in .2 ∙ xor-equal (s .a) (s .b) (sym (s .z-is) ∙ e)))
-    go (no ne) = omega arith
-
--- nor k, where none with k is legal
-pub none-below-more : {marks : List ℕ} (k : ℕ) → NoneBelow maxMembers maxWires marks k → NoneWith marks k
-    → NoneBelow maxMembers maxWires marks (k + 1)
-none-below-more k below none z Y l = go (ℕ-discrete z k)
-  where
-    go : Dec (z ≡ k) → k + 1 ≤ z
-    go (yes e) = absurd (none Y (rw e at l))
-    go (no ne) = omega (arith, below z Y l)
 
 -- z is a parity, and names t
 pub record HighestWire (t z : ℕ) : Type 0 where

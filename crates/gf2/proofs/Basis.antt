@@ -12,11 +12,11 @@ use lib.Bits.{bitXor, xor-self, xor-zero-l, xor-zero-r}
 use lib.ListN.{getD, length, length-map, length-replicate, length-set, replicate, set}
 use lib.Pow.{pow-pos}
 use lib.Seq.{getD-set-other, getD-set-same}
-use Rattle.gf2.proofs.Bit.{bit-eq, bit-lt, bit-scale, bit-values, bit-xor}
+use Rattle.gf2.proofs.Bit.{bit-eq, bit-lt, bit-values, bit-xor}
 use Rattle.gf2.proofs.Brute.{brute6}
 use Rattle.gf2.proofs.Combination.{combine-fresh, combine-unseen, combine-whole, combine-with, getD-map, span-all}
 use Rattle.gf2.proofs.Echelon.{filled-new, filled-old, filled-shape, tags-vanish}
-use Rattle.gf2.proofs.Selection.{combine-first, combine-next, combine-scale, combine-xor}
+use Rattle.gf2.proofs.Selection.{combine-first, combine-next, combine-xor}
 use Rattle.gf2.proofs.Table.{getD-zeros}
 use Rattle.gf2.proofs.Xor.{xor-assoc, xor-cancel}
 use Rattle.gf2.specs.Bit.{bit}
@@ -72,9 +72,6 @@ module _ (N : ℕ) (κ τ : ℕ → ℕ) where
 
     -- it opens slot s, whose tag makes up for those of the slots taken off it
     module _ (s left used : ℕ) (t : Stopped N vec (κ y) s left used) where
-      abbrev pub newTag : ℕ
-      newTag = bitXor (combine used (h .tag)) (τ y)
-
       in-vec : s < length vec
       in-vec = rw (h .shape .long) (t .slot)
 
@@ -184,12 +181,6 @@ module _ (N : ℕ) (κ τ : ℕ → ℕ) where
             from = λ j n. from′ j n (ℕ-discrete j s);
           }
         where
-          tag : List ℕ
-          tag = h .covers .tag
-
-          g : ℕ
-          g = bitXor (combine used (h .covers .tag)) (τ y)
-
           by-now : getD (set by s used) s 0 ≡ used
           by-now = getD-set-same by s used 0 (rw by-long (t .slot))
 

@@ -2,14 +2,14 @@
 use mathlib.Core.List.{List, [], _∷_, map}
 use mathlib.Core.Path.{_∙_, _≡_, ap, ap₂, refl, sym}
 use Prim.Native.Nat.{_%_, _*_, _/_, _<_, _^_, suc, suc-le-suc, zero, zero-le, ℕ}
-use native.Mathlib.Nat.{mul-zero, zero-mul}
+use native.Mathlib.Nat.{zero-mul}
 use native.Mathlib.Numerals.{add-one}
 use native.Mathlib.Omega.{arith}
 use lib.Bits.{bitXor, xor-lt, xor-self, xor-zero-l, xor-zero-r}
 use lib.ListN.{getD, length, set}
 use lib.Pow.{field, mod-mod-pow, pow-pos}
 use lib.Seq.{getD-set-same}
-use Rattle.gf2.proofs.Bit.{bit-lt, bit-of-zero, bit-scale, bit-xor}
+use Rattle.gf2.proofs.Bit.{bit-lt}
 use Rattle.gf2.proofs.Selection.{combine-none, combine-one, combine-scale, combine-set, combine-xor, scale-lt}
 use Rattle.gf2.proofs.Xor.{xor-assoc, xor-cancel}
 use Rattle.gf2.specs.Bit.{bit}

@@ -1,8 +1,8 @@
 -- Slots named by a mask: what they hold, one more filled, and changes that the mask does not see.
 use mathlib.Core.List.{List}
 use mathlib.Core.Logic.{_≢_, _⊎_, inl, inr}
-use mathlib.Core.Path.{_∙_, _≡_, ap, ap₂, refl, sym}
-use Prim.Native.Nat.{_%_, _*_, _+_, _<_, _^_, _≤_, ℕ}
+use mathlib.Core.Path.{_∙_, _≡_, ap, ap₂, sym}
+use Prim.Native.Nat.{_*_, _<_, _^_, _≤_, ℕ}
 use native.Mathlib.Decide.{decLt, ℕ-discrete}
 use native.Mathlib.Nat.{mul-zero, one-mul, zero-mul}
 use native.Mathlib.Omega.{arith}

@@ -1,6 +1,6 @@
 -- An xor basis ("echelon") of N slots: slot s holds 0, or a number whose leading bit is s.
 -- Beside it stand the member whose column opened it, and the slots that were taken off that column before.
-use mathlib.Core.List.{List, map}
+use mathlib.Core.List.{List}
 use mathlib.Core.Logic.{_≢_}
 use mathlib.Core.Path.{_≡_}
 use Prim.Native.Nat.{_*_, _<_, _^_, _≤_, suc, zero, ℕ}

@@ -1,19 +1,18 @@
 -- The partners y and y XOR z: they have one column; and columns whose xor is 0 have members whose xor is 0 or z.
 use mathlib.Core.List.{List, [], _∷_, map}
 use mathlib.Core.Logic.{_⊎_, inl, inr}
-use mathlib.Core.Path.{_∙_, _≡_, ap, ap₂, refl, sym}
+use mathlib.Core.Path.{_∙_, _≡_, ap, refl, sym}
 use Prim.Native.Nat.{_%_, _*_, _+_, _<_, _^_, suc, zero, ℕ}
 use native.Mathlib.Nat.{le-refl, one-mul, zero-mul}
 use native.Mathlib.Omega.{arith}
 use lib.Bits.{bitXor, xor-comm, xor-self, xor-zero-l, xor-zero-r}
-use lib.ListN.{getD, length}
 use lib.Pow.{pow-pos}
 use Rattle.gf2.proofs.Bit.{bit-ext, bit-lt, bit-of-zero, bit-values, bit-xor}
 use Rattle.gf2.proofs.Over.{sumOver-mod, xorAll-lt, xorAll-map-bit}
 use Rattle.gf2.proofs.Selection.{scale-sum}
 use Rattle.gf2.proofs.Xor.{xor-assoc, xor-cancel}
 use Rattle.gf2.specs.Bit.{bit}
-use Rattle.gf2.specs.Over.{Below, sumOver, xorAll}
+use Rattle.gf2.specs.Over.{Below, xorAll}
 use Rattle.moves.proofs.OneXor.{bar-lt, column-bit}
 use Rattle.moves.specs.Column.{bar, column}
 use Rattle.moves.specs.Product.{product, tri}

@@ -17,7 +17,7 @@ use Rattle.gf2.proofs.Bit.{bit-lt, bit-of-zero, bit-values, bit-xor}
 use Rattle.gf2.proofs.Combination.{combine-whole}
 use Rattle.gf2.proofs.Over.{map-same, xorAll-none}
 use Rattle.gf2.proofs.Pairing.{xor-equal, xor-nonzero}
-use Rattle.gf2.proofs.Xor.{xor-assoc, xor-cancel}
+use Rattle.gf2.proofs.Xor.{xor-cancel}
 use Rattle.gf2.specs.Bit.{bit}
 use Rattle.gf2.specs.Echelon.{Basis, Reached, SpanBoth, byMembers}
 use Rattle.gf2.specs.Over.{Below, xorAll}
@@ -28,13 +28,13 @@ use Rattle.moves.proofs.Flips.{flip-bits}
 use Rattle.moves.proofs.Keep.{member-lt}
 use Rattle.moves.proofs.Naming.{Room, flipped-few, flipped-off, flipped-xor, named-bits, named-few, named-from}
 use Rattle.moves.proofs.Naming.{named-length, named-xor}
-use Rattle.moves.proofs.Pairs.{legal-listed, partner-back}
+use Rattle.moves.proofs.Pairs.{legal-listed}
 use Rattle.moves.proofs.Sets.{listed-in}
 use Rattle.moves.specs.CarryOut.{flip}
 use Rattle.moves.specs.Column.{column}
 use Rattle.moves.specs.Move.{Legal}
 use Rattle.moves.specs.Pair.{PairIn, Stands, mended, named, namedWith, pairTag}
-use Rattle.moves.specs.Sets.{In, listed}
+use Rattle.moves.specs.Sets.{listed}
 
 -- the set by its marks
 abbrev setOf : ℕ → List ℕ → List ℕ

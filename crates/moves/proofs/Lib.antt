@@ -12,6 +12,7 @@ pub mod Pairs
 pub mod Naming
 pub mod Finding
 pub mod Wires
+pub mod Smallest
 pub mod Logs
 pub mod Replaying
 pub mod Deciding

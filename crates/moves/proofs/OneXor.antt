@@ -1,12 +1,12 @@
 -- For one z, "the xor of Y is 0 and every triple condition holds" is two xors: that of Y, and that of its columns.
 use mathlib.Core.List.{List, map}
 use mathlib.Core.Logic.{_↔_}
-use mathlib.Core.Path.{_∙_, _≡_, ap, ap₂, sym}
+use mathlib.Core.Path.{_∙_, _≡_, ap, sym}
 use Prim.Native.Nat.{_%_, _*_, _+_, _<_, _^_, _≤_, ℕ}
 use native.Mathlib.Decide.{decLt}
 use native.Mathlib.Nat.{mul-comm}
 use native.Mathlib.Omega.{arith}
-use lib.Bits.{bitXor, xor-lt}
+use lib.Bits.{xor-lt}
 use lib.Pow.{pow-pos}
 use Rattle.gf2.proofs.Bit.{bit-ext, bit-lt, bit-of-zero, bit-scale, bit-xor}
 use Rattle.gf2.proofs.Over.{below-map, xorAll-lt, xorAll-map-bit}

@@ -194,20 +194,3 @@ module _ (f : ℕ → ℕ) (marks : (p : ℕ) → f p < 2) where
 
   pub in-listed : (k p : ℕ) → p < k → f p ≡ 1 → In p (listed k f)
   in-listed k p l e = occ-in p (listed k f) (omega (arith, listed-occ k p l))
-
--- one number more
-pub listed-more : (k a : ℕ) (f g : ℕ → ℕ) → ((p : ℕ) → f p < 2) → ((p : ℕ) → g p < 2) → a < k → ((p : ℕ) → p < k → g p ≡ delta a p + f p)
-    → (c : ℕ → ℕ) → sumOver c (listed k g) ≡ c a + sumOver c (listed k f)
-listed-more k a f g bf bg l e c =
-    omega (
-      arith,
-      listed-sum f bf k c,
-      listed-sum g bg k c,
-      sum-ext k (λ p. g p * c p) (λ p. delta a p * c p + f p * c p) (λ p h. rw (e p h) (omega arith)),
-      sum-add k (λ p. delta a p * c p) (λ p. f p * c p),
-      sum-single k a (λ p. delta a p * c p) l (λ p h ne. rw (delta-other a p ne) (omega arith)),
-      one,
-    )
-  where
-    one : delta a a * c a ≡ c a
-    one = rw (delta-same a) (omega arith)

@@ -1,6 +1,6 @@
 -- y, with z taken off where its bit t is set.
 use mathlib.Core.Path.{refl}
-use Prim.Native.Nat.{_<_, _^_}
+use Prim.Native.Nat.{_^_}
 use native.Mathlib.Omega.{arith}
 use borrow.Author.Needs.{needs}
 use Rattle.circuit.specs.Limits.{maxWires}

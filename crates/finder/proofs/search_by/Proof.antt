@@ -3,7 +3,6 @@ use mathlib.Core.Path.{_≡_, refl}
 use Prim.Native.Nat.{_%_, _*_, _^_}
 use native.Mathlib.Omega.{arith}
 use borrow.Author.Needs.{needs}
-use denote.Ref.{now}
 use Rattle.circuit.proofs.Steps.{shifted}
 use Rattle.moves.proofs.Laws.{limits-suffice}
 use Rattle.moves.proofs.Wires.{sound-wires}

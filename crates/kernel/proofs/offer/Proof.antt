@@ -1,7 +1,6 @@
 -- Nothing is asked of 0; a column that opened a slot is passed; for one that came down to 0, what the writing of its move says.
 use mathlib.Core.Logic.{inl, inr}
 use mathlib.Core.Path.{refl}
-use native.Mathlib.Omega.{arith}
 use lib.Bits.{xor-lt}
 use borrow.Author.Needs.{needs}
 use Rattle.circuit.specs.Limits.{maxWires}

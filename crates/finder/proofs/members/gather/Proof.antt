@@ -2,10 +2,8 @@
 use mathlib.Core.Path.{_≡_}
 use Prim.Native.Nat.{_-_, _<_, _≤_}
 use native.Mathlib.Omega.{arith}
-use lib.ListN.{length}
 use borrow.Author.Needs.{needs}
 use denote.Ref.{now}
-use Rattle.circuit.specs.Limits.{parities}
 use Rattle.circuit.specs.Sound.{weight}
 use Rattle.finder.proofs.Listing.{GatheredTo, gather-next, gather-none}
 use Rattle.finder.proofs.members.gather.Statement.{statement}

@@ -1,6 +1,6 @@
 -- No z with a highest wire passed so far has a legal move.
 use mathlib.Core.Path.{_∙_, _≡_, ap, refl}
-use Prim.Native.Nat.{_*_, _-_, _<_, _^_, _≤_}
+use Prim.Native.Nat.{_*_, _-_, _^_, _≤_}
 use native.Mathlib.Nat.{mul-le-mul}
 use native.Mathlib.Numerals.{add-one}
 use native.Mathlib.Omega.{arith}
@@ -8,8 +8,8 @@ use lib.ListN.{length}
 use borrow.Author.Needs.{needs}
 use denote.Ref.{now}
 use Rattle.circuit.specs.Limits.{maxMembers, maxWires}
+use Rattle.moves.proofs.Smallest.{none-below-one}
 use Rattle.moves.specs.Move.{NoneBelow}
-use Rattle.finder.proofs.Asking.{none-below-one}
 use Rattle.finder.proofs.scan.scan.Statement.{statement}
 use Rattle.finder.proofs.scan.scan.Tie as tie
 

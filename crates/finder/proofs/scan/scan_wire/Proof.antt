@@ -1,18 +1,18 @@
 -- No z passed so far has a legal move; and of this z, the columns asked so far are in the slots.
 use mathlib.Core.Path.{_∙_, _≡_, ap, refl}
-use Prim.Native.Nat.{_%_, _*_, _+_, _-_, _<_, _^_, _≤_}
+use Prim.Native.Nat.{_%_, _*_, _-_, _^_, _≤_}
 use native.Mathlib.Omega.{arith}
 use lib.Bits.{xor-lt}
 use lib.ListN.{length}
 use lib.Pow.{pow-mono}
 use borrow.Author.Needs.{needs}
-use denote.Ref.{now}
 use Rattle.circuit.proofs.Steps.{shifted}
-use Rattle.circuit.specs.Limits.{maxMembers, maxWires, parities}
+use Rattle.circuit.specs.Limits.{maxMembers, maxWires}
+use Rattle.moves.proofs.Smallest.{none-below-more}
 use Rattle.moves.specs.Move.{NoneBelow}
 use Rattle.moves.specs.declared.Sought.the-variants.{Nothing}
 use Rattle.finder.proofs.Apart.{half-kept}
-use Rattle.finder.proofs.Asking.{Asked, HighestWire, Places, asked-next, asked-start, highest-wire, no-members, none-below-more}
+use Rattle.finder.proofs.Asking.{Asked, HighestWire, Places, asked-next, asked-start, highest-wire, no-members}
 use Rattle.finder.proofs.Asking.{offered-smallest, slot-places, z-passed}
 use Rattle.finder.proofs.InTurn.{members-below, turn-below}
 use Rattle.finder.specs.Halves.{HalfIn}
@@ -150,7 +150,7 @@ search-again c =
       at .loop .inv .1 ∙ up .search .inv .1,
       omega (arith, up .search .inv .2),
       slot-places (at .loop .inv .3 .slots),
-      none-below-more _ (up .search .inv .4)
+      none-below-more maxMembers maxWires _ (up .search .inv .4)
           (z-passed (s .pre .1 .0 .0) (s .pre .1 .0 .1) (wire u .names) (ask .to-ask .ensures .0) (rw e at (at .loop .inv .3))),
       half-kept (up .search .inv .5) (ask .to-ask .ensures .1),
     )

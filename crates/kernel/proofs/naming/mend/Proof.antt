@@ -2,15 +2,12 @@
 use mathlib.Core.List.{List}
 use mathlib.Core.Path.{_∙_, ap, sym}
 use Prim.Native.Nat.{ℕ}
-use native.Mathlib.Omega.{arith}
 use lib.Bits.{bitXor, xor-lt}
-use lib.ListN.{length}
 use borrow.Author.Needs.{needs}
 use denote.Ref.{now}
 use Rattle.circuit.specs.Limits.{maxWires}
 use Rattle.moves.proofs.Finding.{mended-none, mended-some}
 use Rattle.moves.specs.CarryOut.{flip}
-use Rattle.moves.specs.Pair.{mended}
 use Rattle.kernel.proofs.naming.mend.Statement.{statement}
 use Rattle.kernel.proofs.naming.mend.Tie as tie
 

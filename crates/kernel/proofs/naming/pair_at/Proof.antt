@@ -1,5 +1,4 @@
 -- Neither a nor the member of a slot passed so far is one of a pair.
-use mathlib.Core.Path.{_≡_}
 use Prim.Native.Nat.{_-_, _<_, _≤_}
 use native.Mathlib.Omega.{arith}
 use borrow.Author.Needs.{needs}

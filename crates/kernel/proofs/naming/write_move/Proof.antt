@@ -1,11 +1,7 @@
 -- The set has one of a pair, and is mended and listed; or it has none.
-use mathlib.Core.Path.{_∙_, _≡_, ap, refl}
-use Prim.Native.Nat.{_<_}
+use mathlib.Core.Path.{_∙_, refl}
 use native.Mathlib.Omega.{arith}
-use lib.ListN.{length}
 use borrow.Author.Needs.{needs}
-use denote.Ref.{now}
-use Rattle.circuit.specs.Limits.{parities, tableBytes}
 use Rattle.kernel.proofs.SetsNamed.{mended-set, move-none, move-of}
 use Rattle.kernel.proofs.naming.write_move.Statement.{statement}
 use Rattle.kernel.proofs.naming.write_move.Tie as tie

@@ -4,7 +4,6 @@ use Prim.Native.Nat.{_%_, _*_, _-_, _<_, _^_, _≤_}
 use native.Mathlib.Omega.{arith}
 use lib.Pow.{pow-mono}
 use borrow.Author.Needs.{needs}
-use denote.Ref.{now}
 use Rattle.circuit.proofs.Steps.{shifted}
 use Rattle.circuit.specs.Limits.{maxWires, parities}
 use Rattle.rests.proofs.Tables.{LowTo, low-next}

@@ -1,6 +1,6 @@
 -- The members are counted.
 use mathlib.Core.Path.{_≡_, refl}
-use Prim.Native.Nat.{_%_, _*_, _-_, _<_, _^_, _≤_}
+use Prim.Native.Nat.{_%_, _*_, _-_, _^_, _≤_}
 use native.Mathlib.Omega.{arith}
 use lib.ListN.{getD}
 use lib.Pow.{pow-mono}
