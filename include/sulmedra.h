@@ -216,7 +216,8 @@ typedef struct {
 } sulmedra_answered;
 
 /* Answers a text with what the program `trim` prints for it: the wire count, the four counts and the gates of the trimmed circuit, or
- * one line `refused ` with the number and the place of the text's fault. The first 28,676 bytes of a text decide.
+ * one line `refused ` with the number and the place of the text's fault. The circuit and the counts are those of a trim with all that is
+ * said of sulmedra_trim. The first 28,676 bytes of a text decide.
  *   text  any bytes
  *   out   at least 14,807 bytes; the reply is written from its start, and what comes after it is untouched
  * Checks: 8. */

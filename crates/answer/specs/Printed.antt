@@ -16,7 +16,7 @@ use Rattle.trimmer.specs.declared.Counts.{Counts}
 abbrev pub trimLines : ℕ → Counts → List Gate → List ℕ
 trimLines n counts D = wiresLine n ++ countsLine (counts .tin) (counts .odd) (counts .tout) (counts .moves) ++ gateLines D
 
--- the lines of a trim of C: the D and the counts printed have, with some log, all that demand 3 says
+-- the lines of a trim of C: the D and the counts printed have, with some log, all that `Trimmed` says
 pub record PrintsTrim (n : ℕ) (C : List Gate) (bytes : List ℕ) : Type 0 where
   pub D : List Gate
   pub log : List ℕ

@@ -17,7 +17,7 @@ use Rattle.moves.proofs.OneXor.{balanced-iff}
 use Rattle.moves.specs.Column.{column}
 use Rattle.moves.specs.Move.{Balanced}
 use Rattle.moves.proofs.Answers.{decides-as, decides-equal}
-use Rattle.moves.specs.Answer.{Decides}
+use Rattle.moves.specs.Tests.{Decides}
 
 -- what the loop keeps: s, with the f of those that are still to come, makes up the xor of all
 pub record XorTo (f : ℕ → ℕ) (Y : List ℕ) (i s : ℕ) : Type 0 where

@@ -17,8 +17,8 @@ use Rattle.moves.proofs.Logs.{cells-checked}
 use Rattle.moves.specs.Log.{LegalCells, MoveForm, setOf, zOf}
 use Rattle.moves.specs.Move.{Legal, Separates}
 use Rattle.moves.proofs.Answers.{decides-as}
-use Rattle.moves.specs.Answer.{Decides}
-use Rattle.carry.specs.Decides.{AllMembers}
+use Rattle.moves.specs.Tests.{Decides}
+use Rattle.carry.specs.Tested.{AllMembers}
 
 -- a number beyond the marks is no member
 pub member-inside : (marks : List ℕ) (p : ℕ) → Member marks p → p < length marks

@@ -10,7 +10,7 @@ use borrow.Author.Count.{below-more}
 use Rattle.moves.proofs.Deciding.{separates-at}
 use Rattle.moves.specs.Move.{Separates}
 use Rattle.moves.specs.Sets.{Ascending, In}
-use Rattle.carry.specs.Decides.{Outside}
+use Rattle.carry.specs.Tested.{Outside}
 
 -- ---- a loop over a list
 

@@ -1,2 +1,2 @@
-pub mod Decides
+pub mod Tested
 pub mod Entry

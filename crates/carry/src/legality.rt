@@ -9,12 +9,12 @@ ghost use Rattle.circuit.specs.Limits.{maxMembers, maxWires, parities, tableByt
 ghost use Rattle.circuit.specs.OddSet.{Member};
 ghost use Rattle.gf2.specs.Over.{Below, xorAll};
 ghost use Rattle.gf2.specs.Parity.{lowest};
-ghost use Rattle.moves.specs.Answer.{Decides};
+ghost use Rattle.moves.specs.Tests.{Decides};
 ghost use Rattle.moves.specs.Column.{column};
 ghost use Rattle.moves.specs.Log.{LegalCells, MoveForm, ZeroFrom, setOf};
 ghost use Rattle.moves.specs.Move.{Balanced, Legal, Separates};
 ghost use Rattle.moves.specs.Sets.{Ascending, In};
-ghost use Rattle.carry.specs.Decides.{AllMembers, Outside};
+ghost use Rattle.carry.specs.Tested.{AllMembers, Outside};
 use circuit::cells::cell_at;
 use circuit::cells::part;
 use circuit::limits::MAX_MEMBERS;
@@ -188,7 +188,7 @@ fn xor_of(ys: &[Parity]) -> Parity
     sum
 }
 
-// For the lowest wire of z.
+// The xor of the columns of Y, for the lowest wire of z.
 fn columns_xor(z: Parity, ys: &[Parity]) -> u64
     requires { ⌜ (z ≢ 0) × (z < parities) × Below parities (now ys) ⌝ }
     ensures { λ r. ⌜ r ≡ xorAll (map (column maxWires z (lowest maxWires z)) (now (ys .entry))) ⌝ }

@@ -6,7 +6,7 @@ use Prim.Native.Nat.{_<_, _^_, _≤_, suc, ℕ}
 use lib.ListN.{getD, length, set}
 use Rattle.circuit.specs.Limits.{parities, productBits}
 use Rattle.gf2.specs.Bit.{bit}
-use Rattle.gf2.specs.Echelon.{Reached, Shape, Stopped, held}
+use Rattle.gf2.specs.Echelon.{AllHold, Reached, Shape, Stopped, held}
 use Rattle.gf2.specs.Over.{Below}
 use Rattle.echelon.specs.declared.Inserted.{Inserted}
 use Rattle.echelon.specs.declared.Inserted.the-variants as inserted
@@ -22,7 +22,7 @@ pub record LeadingBit (x s : ℕ) : Type 0 where
 -- the slots that a mask names, each of which holds something
 pub record Masked (filled : ℕ) (vec : List ℕ) : Type 0 where
   pub shape : Shape productBits (held filled vec)
-  pub some : (s : ℕ) → bit filled s ≡ 1 → getD vec s 0 ≢ 0
+  pub some : AllHold vec filled
 
 -- Dependent: v came down to 0. Independent: it was stopped at a slot that the mask does not name, with so much left
 abbrev pub Reduces : ℕ → List ℕ → ℕ → Reduced → Type 0
@@ -48,15 +48,15 @@ pub record OpensSlot (v : ℕ) (vec vec′ : List ℕ) : Type 0 where
   pub stopped : Stopped productBits vec v s left used
   pub vec-is : vec′ ≡ set vec s left
 
--- and is known there as that of y; the mask names the slot from then on
+-- and is known there as that of y, made by what was taken off it; the mask names the slot from then on
 pub record Opens (y v filled : ℕ) (vec by member : List ℕ) (filled′ : ℕ) (vec′ by′ member′ : List ℕ) : Type 0 where
   pub slot : OpensSlot v (held filled vec) (held filled′ vec′)
   pub masked : Masked filled′ vec′
   pub by-is : by′ ≡ set by (slot .s) (slot .used)
   pub member-is : member′ ≡ set member (slot .s) y
 
--- `grow`, with the mask of the slots: where v opened a slot, r names it too; where v came down to 0, r is the mask as it was. What the mask
--- names has not changed
+-- `grow`, with the mask of the slots: where r is not the mask as it was, v opened a slot, and r names it too. r names all that the mask did,
+-- and every part of that holds what it held
 pub record Grows (v filled : ℕ) (vec vec′ : List ℕ) (r : ℕ) : Type 0 where
   pub opens : r ≢ filled → OpensSlot v (held filled vec) (held r vec′)
   pub masked : Masked r vec′
@@ -69,6 +69,7 @@ pub record Same (vec by member vec′ by′ member′ : List ℕ) : Type 0 where
   pub by-is : by′ ≡ by
   pub member-is : member′ ≡ member
 
+-- `insert`: v came down to 0 and nothing changed, or it opened a slot
 abbrev pub Inserts : ℕ → ℕ → ℕ → List ℕ → List ℕ → List ℕ → List ℕ → List ℕ → List ℕ → Inserted → Type 0
 Inserts y v filled vec by member vec′ by′ member′ (inserted.Dependent used) =
     Reached (held filled vec) v 0 used × Same vec by member vec′ by′ member′

@@ -54,12 +54,12 @@ slot-places h = record { vec-long = masked-long (h .masked); by-long = h .by-lon
 -- ---- the columns of one z
 
 -- the turns before i were asked: their columns are in the slots
-pub record Asked (marks ys : List ℕ) (z t i filled : ℕ) (vec by member : List ℕ) : Type 0 where
+pub record AskedBefore (marks ys : List ℕ) (z t i filled : ℕ) (vec by member : List ℕ) : Type 0 where
   pub slots : Slots filled vec by member
   pub basis : Basis productBits (Had marks ys z t i) (column maxWires z t) (pairTag marks z) (held filled vec) by member
 
 -- none was, and no slot is filled
-pub asked-start : {marks ys : List ℕ} {z t : ℕ} {vec by member : List ℕ} → Places vec by member → Asked marks ys z t 0 0 vec by member
+pub asked-start : {marks ys : List ℕ} {z t : ℕ} {vec by member : List ℕ} → Places vec by member → AskedBefore marks ys z t 0 0 vec by member
 asked-start {marks} {ys} {z} {t} {vec} {by} {member} p =
     record {
       slots = record { masked = masked-none vec (p .vec-long); by-long = p .by-long; members = p .members };
@@ -69,7 +69,7 @@ asked-start {marks} {ys} {z} {t} {vec} {by} {member} p =
     }
 
 module _ {marks ys : List ℕ} {z t i a b v filled : ℕ} {vec by member : List ℕ} (all : Members marks ys)
-    (h : Asked marks ys z t i filled vec by member) (T : TurnOf marks ys z t i a) (b-is : b ≡ bitXor a z) (v-is : v ≡ column maxWires z t a) where
+    (h : AskedBefore marks ys z t i filled vec by member) (T : TurnOf marks ys z t i a) (b-is : b ≡ bitXor a z) (v-is : v ≡ column maxWires z t a) where
   z-is : bitXor a b ≡ z
   z-is = ap (bitXor a) b-is ∙ partner-back a z
 
@@ -78,7 +78,7 @@ module _ {marks ys : List ℕ} {z t i a b v filled : ℕ} {vec by member : List 
 
   -- it offered nothing
   pub asked-next : {filled′ : ℕ} {vec′ by′ member′ : List ℕ} → Passes marks a b v filled vec by member filled′ vec′ by′ member′
-      → Asked marks ys z t (i + 1) filled′ vec′ by′ member′
+      → AskedBefore marks ys z t (i + 1) filled′ vec′ by′ member′
   asked-next (inl (none, (e, same))) =
       rw (e, same .vec-is, same .by-is, same .member-is) (record {
         slots = h .slots;
@@ -130,7 +130,7 @@ module _ {marks ys : List ℕ} {z t i a b v filled : ℕ} {vec by member : List 
 -- ---- all columns of one z
 
 pub z-passed : {marks ys : List ℕ} {z t m filled : ℕ} {vec by member : List ℕ} → Members marks ys → t < maxWires → bit z t ≡ 1
-    → ToAsk marks ys z m → Asked marks ys z t m filled vec by member → NoneWith marks z
+    → ToAsk marks ys z m → AskedBefore marks ys z t m filled vec by member → NoneWith marks z
 z-passed {marks} {ys} {z} {t} {m} {filled} {vec} all t-lt z-t ask h Y legal = go (ask .all)
   where
     go : (m ≡ 2 * length ys) ⊎ NoneWith marks z → ⊥

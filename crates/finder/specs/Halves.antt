@@ -1,4 +1,4 @@
--- What is said of the columns for a wire t, whatever the z with this wire.
+-- What is said of the columns for a wire t, whatever the z.
 use mathlib.Core.Bool.{Bool, true}
 use mathlib.Core.List.{List}
 use mathlib.Core.Path.{_≡_}
@@ -14,7 +14,7 @@ use Rattle.moves.specs.Sets.{In}
 abbrev pub Without : List ℕ → ℕ → ℕ → Type 0
 Without ys t y = In y ys × (bit y t ≡ 0)
 
--- their columns, which no z changes, are in the slots, and each opened one: so they are covered whatever the tags
+-- whatever z and the tags are, the slots cover their columns and tags; so it is where each column opened a slot, for no z changes these
 abbrev pub HalfApart : List ℕ → ℕ → List ℕ → Type 0
 HalfApart ys t vec = (z : ℕ) (τ : ℕ → ℕ) → Covers productBits (Without ys t) (column maxWires z t) τ vec
 

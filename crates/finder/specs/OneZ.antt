@@ -48,7 +48,7 @@ pub record TurnOf (marks ys : List ℕ) (z t i r : ℕ) : Type 0 where
   pub its : r ≢ 0 → Turn marks ys z t i r
   pub only : (y : ℕ) → Turn marks ys z t i y → y ≡ r
 
--- r turns are to be asked: all of them; or none, where no move with this z is legal
+-- r turns are to be asked: all of them; or fewer, where no move with this z is legal
 pub record ToAsk (marks ys : List ℕ) (z r : ℕ) : Type 0 where
   pub fits : r ≤ 2 * length ys
   pub all : (r ≡ 2 * length ys) ⊎ NoneWith marks z

@@ -10,7 +10,7 @@ ghost use Rattle.echelon.specs.Slots.{Masked};
 ghost use Rattle.gf2.specs.Bit.{bit};
 ghost use Rattle.gf2.specs.Echelon.{held};
 ghost use Rattle.gf2.specs.Over.{Below};
-ghost use Rattle.moves.specs.Answer.{Decides};
+ghost use Rattle.moves.specs.Tests.{Decides};
 ghost use Rattle.finder.specs.Halves.{HalfApart, HalfIn};
 ghost use Rattle.finder.specs.OneZ.{HasPair, Members, NoneWith, ToAsk};
 use circuit::cells::cell_at;
@@ -28,7 +28,8 @@ pub struct Half {
     pub filled: u64,
 }
 
-// Eliminates the members without wire t. Where there are more than `most` members it looks at none: so many columns depend on each other.
+// Eliminates the members without wire t. Where there are more than `most` members it looks at none: at most `most` columns can be apart, so
+// those of so many members seldom are.
 pub fn half_of(
     products: &[u64; PARITIES],
     ys: &[Parity],

@@ -36,7 +36,8 @@ pub enum Finding {
     Refused { number: u8, place: usize },
 }
 
-// Finds a legal move with the smallest z for the marks of an odd set and writes its cells. Where it finds none, and on refusal, the cells stay as they were.
+// Finds a legal move with the smallest z for the marks of an odd set and writes its cells. Where it finds none, and on refusal, the cells
+// stay as they were.
 pub fn find(n: usize, marks: &[Mark], cells: &mut [MoveCell]) -> Finding
     ensures { λ r. ⌜ FindMove n (now (marks .entry)) (now (cells .entry)) (now (cells .exit)) r ⌝ }
 {

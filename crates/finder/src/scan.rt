@@ -21,7 +21,8 @@ use kernel::Asked;
 use kernel::offer;
 use moves::Sought;
 
-// Goes through z from 1 up, by their highest wire t. Internal: the caller has gathered the members ys of the marks.
+// Goes through z from 1 up, by their highest wire t. Of the n(n + 1)/2 product bits a column has not the n with wire t.
+// Internal: the caller has gathered the members ys of the marks.
 pub fn scan(
     n: usize,
     products: &[u64; PARITIES],
@@ -47,7 +48,7 @@ pub fn scan(
 }
 
 // The z whose highest wire is t, ascending, and for each its columns: a in turn, with b = a ^ z. Both loops are left as soon as a column
-// offers a separating set, so that no z below it has a legal move. `most` columns may be apart.
+// offers a separating set; every z below was asked before, so none of them has a legal move. At most `most` columns can be apart.
 fn scan_wire(
     most: usize,
     products: &[u64; PARITIES],

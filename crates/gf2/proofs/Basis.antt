@@ -20,7 +20,7 @@ use Rattle.gf2.proofs.Selection.{combine-first, combine-next, combine-x
 use Rattle.gf2.proofs.Table.{getD-zeros}
 use Rattle.gf2.proofs.Xor.{xor-assoc, xor-cancel}
 use Rattle.gf2.specs.Bit.{bit}
-use Rattle.gf2.specs.Echelon.{Basis, Covers, Filled, Opened, Reached, SpanBoth, Stopped, byMembers}
+use Rattle.gf2.specs.Echelon.{AllHold, Basis, Covers, Opened, Reached, SpanBoth, Stopped, byMembers}
 use Rattle.gf2.specs.Over.{xorAll}
 use Rattle.gf2.specs.Selection.{combine}
 
@@ -79,7 +79,7 @@ module _ (N : ℕ) (κ τ : ℕ → ℕ) where
       in-tag = rw (h .tag-long) (t .slot)
 
       -- the slots taken off were filled
-      pub unnamed : (mask : ℕ) → Filled vec mask → bit mask s ≡ 0
+      pub unnamed : (mask : ℕ) → AllHold vec mask → bit mask s ≡ 0
       unnamed mask f = go (bit-values (bit mask s) (bit-lt mask s))
         where
           go : (bit mask s ≡ 0) ⊎ (bit mask s ≡ 1) → bit mask s ≡ 0
@@ -201,7 +201,7 @@ module _ (N : ℕ) (κ τ : ℕ → ℕ) where
               (filled-old N vec (κ y) s left used (h .covers .shape) t j (κ (getD member j 0)) (getD by j 0) (before j d n)
               (h .opened j (before j d n)))
 
-          unseen : (mask : ℕ) → Filled vec mask
+          unseen : (mask : ℕ) → AllHold vec mask
               → combine mask (set (h .covers .tag) s (bitXor (combine used (h .covers .tag)) (τ y))) ≡ combine mask (h .covers .tag)
           unseen mask f =
               combine-unseen mask s (bitXor (combine used (h .covers .tag)) (τ y)) (h .covers .tag) in-tag
@@ -269,7 +269,7 @@ turn a b w x q = bit-eq _ _ (λ i. simp bit-xor (at (bit a i) (bit b i) (bit w i
 -- numbers that stand beside the slots, as the columns in them or their tags do: each makes up, with those of the slots taken off, for f of
 -- the member
 module _ (N : ℕ) (vec by member val : List ℕ) (f : ℕ → ℕ) (long : length member ≡ N) (val-long : length val ≡ N)
-    (filled : (s : ℕ) → getD vec s 0 ≢ 0 → Filled vec (getD by s 0))
+    (filled : (s : ℕ) → getD vec s 0 ≢ 0 → AllHold vec (getD by s 0))
     (above : (s : ℕ) → getD vec s 0 ≢ 0 → (j : ℕ) → bit (getD by s 0) j ≡ 1 → s < j)
     (made : (s : ℕ) → getD vec s 0 ≢ 0 → bitXor (combine (getD by s 0) val) (getD val s 0) ≡ f (getD member s 0)) where
   -- v, with what stands for the members of the slots below k that x names, and what stands beside the slots from k on
@@ -313,15 +313,15 @@ module _ (N : ℕ) (vec by member val : List ℕ) (f : ℕ → ℕ) (long : leng
           go (inl z) = omega (arith, bit-xor x q i, bit-lt x i)
           go (inr z) = absurd (omega (arith, above k n i z))
 
-  filled-on : (x k : ℕ) → getD vec k 0 ≢ 0 → Filled vec x → Filled vec (bitXor x (getD by k 0))
+  filled-on : (x k : ℕ) → getD vec k 0 ≢ 0 → AllHold vec x → AllHold vec (bitXor x (getD by k 0))
   filled-on x k n g s e = go (bit-values (bit x s) (bit-lt x s))
     where
       go : (bit x s ≡ 0) ⊎ (bit x s ≡ 1) → getD vec s 0 ≢ 0
       go (inl z) = filled k n s (omega (arith, bit-xor x (getD by k 0) s, bit-lt (getD by k 0) s))
       go (inr z) = g s z
 
-  module _ (used : ℕ) (named : Filled vec used) where
-    mixed : (k : ℕ) → k ≤ N → Mixed (combine used val) k (byMembers by used k) × Filled vec (byMembers by used k)
+  module _ (used : ℕ) (named : AllHold vec used) where
+    mixed : (k : ℕ) → k ≤ N → Mixed (combine used val) k (byMembers by used k) × AllHold vec (byMembers by used k)
     unfolding byMembers
     mixed zero l = (
       rw (combine-first used (map f member), combine-first used val) (xor-zero-l (combine used val)),
@@ -333,9 +333,9 @@ module _ (N : ℕ) (vec by member val : List ℕ) (f : ℕ → ℕ) (long : leng
         v = combine used val
 
         go : (bit (byMembers by used k) k ≡ 0) ⊎ (bit (byMembers by used k) k ≡ 1)
-            → Mixed (combine used val) k (byMembers by used k) × Filled vec (byMembers by used k)
+            → Mixed (combine used val) k (byMembers by used k) × AllHold vec (byMembers by used k)
             → Mixed (combine used val) (suc k) (bitXor (byMembers by used k) (bit (byMembers by used k) k * getD by k 0))
-            × Filled vec (bitXor (byMembers by used k) (bit (byMembers by used k) k * getD by k 0))
+            × AllHold vec (bitXor (byMembers by used k) (bit (byMembers by used k) k * getD by k 0))
         go (inl e) p =
             rw (e, zero-mul (getD by k 0), xor-zero-r (byMembers by used k)) (mixed-off v (byMembers by used k) k e (p .0), p .1)
         go (inr e) p =
@@ -353,7 +353,7 @@ module _ (N : ℕ) (vec by member val : List ℕ) (f : ℕ → ℕ) (long : leng
         sym (xor-cancel (combine x (map f member)) (combine x val)) ∙ rw (of-f, of-val) at (mixed N (le-refl _) .0)
 
     -- and it names filled slots
-    pub by-filled : Filled vec (byMembers by used N)
+    pub by-filled : AllHold vec (byMembers by used N)
     by-filled = mixed N (le-refl _) .1
 
 module _ (N : ℕ) (κ τ : ℕ → ℕ) (P : ℕ → Type 0) (vec by member : List ℕ) (h : Basis N P κ τ vec by member) (long : length member ≡ N)

@@ -24,13 +24,13 @@ unfoldable pub held : ℕ → List ℕ → List ℕ
 held filled vec = tabulate (length vec) (λ s. bit filled s * getD vec s 0)
 
 -- the mask names slots that hold something
-abbrev pub Filled : List ℕ → ℕ → Type 0
-Filled vec mask = (s : ℕ) → bit mask s ≡ 1 → getD vec s 0 ≢ 0
+abbrev pub AllHold : List ℕ → ℕ → Type 0
+AllHold vec mask = (s : ℕ) → bit mask s ≡ 1 → getD vec s 0 ≢ 0
 
 -- what is left of v after the slots in `used` were taken off it, from above: each of them lies above what is left
 pub record Reached (vec : List ℕ) (v left used : ℕ) : Type 0 where
   pub taken : bitXor (combine used vec) left ≡ v
-  pub filled : Filled vec used
+  pub filled : AllHold vec used
   pub above : (s : ℕ) → bit used s ≡ 1 → left < 2 ^ s
 
 -- and is stopped at slot s, which is empty
@@ -44,7 +44,7 @@ pub record Stopped (N : ℕ) (vec : List ℕ) (v s left used : ℕ) : Type 0 whe
 -- slot s holds what was left of v after the slots in `used`, all of them above s
 pub record Opened (vec : List ℕ) (s v used : ℕ) : Type 0 where
   pub taken : bitXor (combine used vec) (getD vec s 0) ≡ v
-  pub filled : Filled vec used
+  pub filled : AllHold vec used
   pub above : (j : ℕ) → bit used j ≡ 1 → s < j
 
 -- one mask combines the slots to x, and what stands beside them to y

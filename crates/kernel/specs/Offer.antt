@@ -1,4 +1,4 @@
--- What is said of a column that is offered: v, that of a, with z = a XOR b.
+-- What is said of a column that is asked: v, that of a, with z = a XOR b.
 use mathlib.Core.List.{List}
 use mathlib.Core.Logic.{_≢_, _⊎_}
 use mathlib.Core.Path.{_≡_}
@@ -35,7 +35,7 @@ Passes marks a b v filled vec by member filled′ vec′ by′ member′ =
     ⊎ ((a ≢ 0) × Opens a v filled vec by member filled′ vec′ by′ member′)
     ⊎ ((a ≢ 0) × Unpaired marks a b v filled vec by member × Unchanged filled vec by member filled′ vec′ by′ member′)
 
--- a column is offered: the slots, what stands beside them and the cells lent, before and after
+-- `offer`: a column is asked; the slots, what stands beside them and the cells lent, before and after
 abbrev pub Offers : List ℕ → ℕ → ℕ → ℕ → ℕ → List ℕ → List ℕ → List ℕ → List ℕ → List ℕ → List ℕ → List ℕ → List ℕ → Answer → Type 0
 Offers marks a b v filled vec by member cells vec′ by′ member′ cells′ Found = Offered marks a b v filled vec by member cells′
 Offers marks a b v filled vec by member cells vec′ by′ member′ cells′ (Passed filled′) =

@@ -4,7 +4,7 @@ ghost use Prim.Native.Nat.{_<_};
 ghost use lib.ListN.{length};
 ghost use Rattle.circuit.specs.Limits.{moveCells, parities, tableBytes};
 ghost use Rattle.echelon.specs.Slots.{SlotMembers};
-ghost use Rattle.moves.specs.Answer.{Decides};
+ghost use Rattle.moves.specs.Tests.{Decides};
 ghost use Rattle.moves.specs.Pair.{PairIn, mended};
 ghost use Rattle.kernel.specs.Naming.{Few, PairAt, SetNamed, WritesMove, listedCells, totalWith};
 use circuit::cells::cell_at;

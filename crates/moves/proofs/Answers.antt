@@ -5,7 +5,7 @@ use Prim.Native.Nat.{ℕ}
 use native.Mathlib.Omega.{arith}
 use lib.Dec.{eqb}
 use borrow.Author.Tests.{eqb-false, eqb-true, not-false, not-true}
-use Rattle.moves.specs.Answer.{Decides}
+use Rattle.moves.specs.Tests.{Decides}
 
 pub answer-yes : {P : Type 0} → P → Decides true P
 answer-yes p = (λ e. p, λ e. let z : _≡_ {A = ℕ} 0 1 = cc in absurd (omega arith))

@@ -15,7 +15,7 @@ pub record Stands (marks : List ℕ) (z t y : ℕ) : Type 0 where
   pub member : Member marks y
   pub alone : bit y t ≡ 1 → Member marks (bitXor y z) → ⊥
 
--- a mark of its own for each pair: 2^y where the partner of y is a member too, else 0
+-- a tag of its own for each pair: 2^y where the partner of y is a member too, else 0
 unfoldable pub pairTag : List ℕ → ℕ → ℕ → ℕ
 pairTag marks z y = weight marks (bitXor y z) * 2 ^ y
 
@@ -30,7 +30,7 @@ named size member m (suc k) = flipIf (bit m k) (named size member m k) (getD mem
 abbrev pub namedWith : ℕ → List ℕ → ℕ → ℕ → ℕ → List ℕ
 namedWith size member m N a = flip (named size member m N) a
 
--- some y of the set has a member for its partner
+-- y is in the set, and its partner is a member
 pub record PairIn (marks : List ℕ) (z : ℕ) (set : List ℕ) (y : ℕ) : Type 0 where
   pub on : getD set y 0 ≡ 1
   pub partner : Member marks (bitXor y z)

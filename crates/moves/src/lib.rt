@@ -1,6 +1,6 @@
 // Legal moves on an odd set (document 01, "Legal moves"): what they are, that a move keeps the signature and makes the odd set smaller,
-// how few members are left where none is legal, and when a pair of members has one. Definitions in specs/; proofs/Laws states the theorems.
-// The code beside it flips one mark, and names what a search may find.
+// how few members are left where none is legal, and when a number z has one. Definitions in specs/; proofs/Laws states the theorems.
+// The code beside it looks at one mark or flips it, and names what a search may find.
 
 pub mod marks;
 
@@ -8,6 +8,6 @@ pub mod marks;
 pub enum Sought {
     // It has: the cells lent hold the move.
     Found,
-    // No move is legal, and the cells are as they were.
+    // Nothing was found, and the cells are as they were; each function says what that means.
     Nothing,
 }

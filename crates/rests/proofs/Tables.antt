@@ -10,7 +10,7 @@ use lib.Seq.{ext-getD, getD-set-other, getD-set-same}
 use Rattle.circuit.specs.Limits.{maxWires, parities, tableBytes}
 use Rattle.circuit.specs.Sound.{weight}
 use Rattle.gf2.proofs.Table.{getD-tabulate, length-tabulate}
-use Rattle.rests.specs.Rests.{LowWeights, ZerosFrom, oneIn, oneRests, weightIn, weightsIn}
+use Rattle.rests.specs.Rests.{ClearedFrom, LowWeights, oneIn, oneRests, weightIn, weightsIn}
 
 module _ (N n : ℕ) (d qs : List ℕ) where
   pub length-one : length (oneRests N n d qs) ≡ N
@@ -67,7 +67,7 @@ zeros-next {from} {k} {out₀} {out} h a l =
     go p f g (yes d) = rw d (getD-set-same out k 0 0 l)
     go p f g (no ne) = getD-set-other out k p 0 0 ne ∙ h .zeros p f (omega arith)
 
-pub zeros-all : {from k : ℕ} {out₀ out : List ℕ} → ZerosTo from out₀ out k → length out ≤ k → ZerosFrom from out₀ out
+pub zeros-all : {from k : ℕ} {out₀ out : List ℕ} → ZerosTo from out₀ out k → length out ≤ k → ClearedFrom from out₀ out
 zeros-all {from} {k} {out₀} {out} h all =
     record { as-long = h .as-long; kept = h .kept; zeros = λ p f. go p f (decLt p k) }
   where
@@ -80,7 +80,7 @@ pub weight-above : (N n : ℕ) (one qs : List ℕ) (mark p : ℕ) → 2 ^ n ≤ 
 weight-above N n one qs mark p h = simp (le-ltb p (2 ^ n) h)
 
 -- both: the new weights
-pub written-all : {n : ℕ} {one qs u out out′ : List ℕ} → LowWeights n one qs u out → ZerosFrom (2 ^ n) out out′
+pub written-all : {n : ℕ} {one qs u out out′ : List ℕ} → LowWeights n one qs u out → ClearedFrom (2 ^ n) out out′
     → out′ ≡ weightsIn parities maxWires n one qs u
 written-all {n} {one} {qs} {u} {out} {out′} low zero =
     ext-getD 0 out′ (weightsIn parities maxWires n one qs u)

@@ -39,9 +39,13 @@ oneRests N n d qs = tabulate N (oneIn N n d qs)
 abbrev pub restIn : ℕ → List ℕ → List ℕ → ℕ → ℕ
 restIn N one qs p = byWires (ones p) (getD one (lowest N p) 0) (3 * getD qs (N * next N p + lowest N p) 0)
 
--- the new weight of p by it: its mark, with the rest added modulo 8; 0 from 2^n up
+-- the new weight of p by it: its mark, with the rest added modulo 8
+abbrev pub weightBy : ℕ → List ℕ → List ℕ → ℕ → ℕ → ℕ
+weightBy N one qs mark p = (mark + restIn N one qs p) % 8
+
+-- and 0 from 2^n up
 abbrev pub weightIn : ℕ → ℕ → List ℕ → List ℕ → ℕ → ℕ → ℕ
-weightIn N n one qs mark p = either (ltb p (2 ^ n)) ((mark + restIn N one qs p) % 8) 0
+weightIn N n one qs mark p = either (ltb p (2 ^ n)) (weightBy N one qs mark p) 0
 
 -- it stands at p
 unfoldable pub weightsIn : ℕ → ℕ → ℕ → List ℕ → List ℕ → List ℕ → List ℕ
@@ -76,7 +80,7 @@ pub record LowWeights (n : ℕ) (one qs u out : List ℕ) : Type 0 where
   pub low : (p : ℕ) → p < 2 ^ n → weight out p ≡ weightIn maxWires n one qs (weight u p) p
 
 -- 0 from a place on, and before it as it was
-pub record ZerosFrom (from : ℕ) (out out′ : List ℕ) : Type 0 where
+pub record ClearedFrom (from : ℕ) (out out′ : List ℕ) : Type 0 where
   pub as-long : length out′ ≡ length out
   pub kept : (p : ℕ) → p < from → weight out′ p ≡ weight out p
   pub zeros : (p : ℕ) → from ≤ p → weight out′ p ≡ 0

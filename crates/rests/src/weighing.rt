@@ -8,8 +8,8 @@ ghost use Rattle.gf2.specs.Sum.{sum};
 ghost use Rattle.circuit.specs.Limits.{maxWires, mostByte, pairBytes, parities, tableBytes};
 ghost use Rattle.circuit.specs.Sound.{SoundMarks, SoundWeights};
 ghost use Rattle.phase.specs.NewWeights.{apart, newWeights};
-ghost use Rattle.rests.specs.Rests.{DifferenceFits, LowWeights, RestsFit, TablesFit, ZerosFrom, difference, mostRest, newIn, oneIn};
-ghost use Rattle.rests.specs.Rests.{oneRests, pairIn, restIn, weightIn, weightsIn};
+ghost use Rattle.rests.specs.Rests.{ClearedFrom, DifferenceFits, LowWeights, RestsFit, TablesFit, difference, mostRest, newIn, oneIn};
+ghost use Rattle.rests.specs.Rests.{oneRests, pairIn, restIn, weightBy, weightsIn};
 use circuit::limits::Coefficient;
 use circuit::limits::MAX_WIRES;
 use circuit::limits::Mark;
@@ -128,12 +128,12 @@ fn put_low(n: usize, one: &[Weight], q: &[Coefficient], u: &[Mark], out: &mut [W
     ensures { λ _. ⌜ LowWeights n (now (one .entry)) (now (q .entry)) (now (u .entry)) (now (out .exit)) ⌝ }
 {
     for p in 0..1 << n {
-        out[p] = new_weight(n, one, q, u[p], p);
+        out[p] = new_weight(one, q, u[p], p);
     }
 }
 
 fn put_zeros(from: usize, out: &mut [Weight])
-    ensures { λ _. ⌜ ZerosFrom from (now (out .entry)) (now (out .exit)) ⌝ }
+    ensures { λ _. ⌜ ClearedFrom from (now (out .entry)) (now (out .exit)) ⌝ }
 {
     let mut p = from;
     while p < out.len() {
@@ -142,14 +142,11 @@ fn put_zeros(from: usize, out: &mut [Weight])
     }
 }
 
-// A member's 1, with the rest added; 0 from 2^n up.
-fn new_weight(n: usize, one: &[Weight], q: &[Coefficient], mark: Mark, p: usize) -> Weight
-    requires { ⌜ (n ≤ maxWires) × RestsFit (now one) (now q) × (p < parities) ⌝ }
-    ensures { λ r. ⌜ r ≡ weightIn maxWires n (now (one .entry)) (now (q .entry)) mark p ⌝ }
+// A member's 1, with the rest added.
+fn new_weight(one: &[Weight], q: &[Coefficient], mark: Mark, p: usize) -> Weight
+    requires { ⌜ RestsFit (now one) (now q) × (p < parities) ⌝ }
+    ensures { λ r. ⌜ r ≡ weightBy maxWires (now (one .entry)) (now (q .entry)) mark p ⌝ }
 {
-    if p >= 1 << n {
-        return 0;
-    }
     let rest = rest_in(one, q, p as Parity);
     ((mark as u32 + rest) % 8) as Weight
 }

@@ -1,4 +1,5 @@
--- Demand 3, whole: one statement about C, D, the log and the counts. Its fields follow the demand's sentences, in its order.
+-- Demand 3, whole: one statement about C, D, the log and the counts. Its fields follow the demand's sentences, in its order; `smallest` is
+-- document 02's 2.7.
 use mathlib.Core.List.{List}
 use mathlib.Core.Path.{_≡_}
 use Prim.Native.Nat.{_*_, _+_, _/_, ℕ, _≤_}

@@ -1,4 +1,4 @@
-// Making legal moves until none is left.
+// Making legal moves, each with the smallest z, until none is left.
 ghost use mathlib.Core.Path.{_≡_};
 ghost use Prim.Native.Nat.{_≤_};
 ghost use lib.ListN.{length};

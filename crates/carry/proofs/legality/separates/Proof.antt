@@ -6,7 +6,7 @@ use lib.ListN.{length}
 use borrow.Author.Needs.{needs}
 use Rattle.moves.proofs.Answers.{answer-no, answer-yes}
 use Rattle.carry.proofs.Deciding.{Passed, passed-more, passed-none, separates-found, separates-none}
-use Rattle.carry.specs.Decides.{Outside}
+use Rattle.carry.specs.Tested.{Outside}
 use Rattle.carry.proofs.legality.separates.Statement.{statement}
 use Rattle.carry.proofs.legality.separates.Tie as tie
 

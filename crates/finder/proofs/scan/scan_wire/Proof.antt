@@ -12,7 +12,7 @@ use Rattle.moves.proofs.Smallest.{none-below-more}
 use Rattle.moves.specs.Move.{NoneBelow}
 use Rattle.moves.specs.declared.Sought.the-variants.{Nothing}
 use Rattle.finder.proofs.Apart.{half-kept}
-use Rattle.finder.proofs.Asking.{Asked, HighestWire, Places, asked-next, asked-start, highest-wire, no-members}
+use Rattle.finder.proofs.Asking.{AskedBefore, HighestWire, Places, asked-next, asked-start, highest-wire, no-members}
 use Rattle.finder.proofs.Asking.{offered-smallest, slot-places, z-passed}
 use Rattle.finder.proofs.InTurn.{members-below, turn-below}
 use Rattle.finder.specs.Halves.{HalfIn}
@@ -21,7 +21,7 @@ use Rattle.finder.proofs.scan.scan_wire.Tie as tie
 
 abbrev Inv-loop : tie.InvT-loop
 Inv-loop most products marks ys t cells₀ room half vec₀ by₀ member₀ best₀ low k z m filled₀ i₀ k-end cells vec by member best filled i =
-    (best ≡ Nothing) × (cells ≡ cells₀) × (i ≤ m) × Asked marks ys z t i filled vec by member
+    (best ≡ Nothing) × (cells ≡ cells₀) × (i ≤ m) × AskedBefore marks ys z t i filled vec by member
 
 abbrev μ-loop : tie.MeasureT-loop
 μ-loop most products marks ys t cells₀ room half vec₀ by₀ member₀ best₀ low k z m filled₀ i₀ k-end cells vec by member best filled i = m - i

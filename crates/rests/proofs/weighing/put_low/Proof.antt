@@ -1,11 +1,13 @@
 -- The output is filled from the front.
-use mathlib.Core.Path.{_≡_}
+use mathlib.Core.Path.{_≡_, _∙_, refl}
 use Prim.Native.Nat.{_%_, _*_, _-_, _<_, _^_, _≤_}
 use native.Mathlib.Omega.{arith}
 use lib.Pow.{pow-mono}
 use borrow.Author.Needs.{needs}
+use denote.Ref.{now}
 use Rattle.circuit.proofs.Steps.{shifted}
 use Rattle.circuit.specs.Limits.{maxWires, parities}
+use Rattle.rests.proofs.RestSteps.{weight-below}
 use Rattle.rests.proofs.Tables.{LowTo, low-next}
 use Rattle.rests.proofs.weighing.put_low.Statement.{statement}
 use Rattle.rests.proofs.weighing.put_low.Tie as tie
@@ -56,7 +58,7 @@ new-weight-requires : tie.Need-new-weight-requires Inv-loop μ-loop
 new-weight-requires c κs =
     let i : In = search in
     let s : Entry = search in
-    (s .pre .0, s .pre .1, inside i)
+    (s .pre .1, inside i)
 
 slice-write-out : tie.Need-slice-write-out Inv-loop μ-loop
 slice-write-out c =
@@ -71,7 +73,12 @@ loop-again c =
     let r : tie.After-new-weight Inv-loop μ-loop = search in
     let i : In = search in
     let at = head i in
-    (search needs, low-next _ (at .loop .inv .1) (omega (arith, inside i)) (r .new-weight .ensures))
+    let s : Entry = search in (
+      search needs,
+      low-next _ (at .loop .inv .1) (omega (arith, inside i))
+          (r .new-weight .ensures
+          ∙ weight-below maxWires (s .args .n) (now (s .args .one)) (now (s .args .q)) _ (at .loop .p) _ (omega (arith, end-is s)) refl),
+    )
 
 returns : tie.Need-returns Inv-loop μ-loop
 returns c =
