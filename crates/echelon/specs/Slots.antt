@@ -55,8 +55,8 @@ pub record Opens (y v filled : ℕ) (vec by member : List ℕ) (filled′ : ℕ)
   pub by-is : by′ ≡ set by (slot .s) (slot .used)
   pub member-is : member′ ≡ set member (slot .s) y
 
--- `grow`, with the mask of the slots: where r is not the mask as it was, v opened a slot, and r names it too. r names all that the mask did,
--- and every part of that holds what it held
+-- `grow`, with the mask of the slots: where r is not the mask as it was, v opened a slot, and r names it too. r names all that the mask
+-- did, and every part of that holds what it held
 pub record Grows (v filled : ℕ) (vec vec′ : List ℕ) (r : ℕ) : Type 0 where
   pub opens : r ≢ filled → OpensSlot v (held filled vec) (held r vec′)
   pub masked : Masked r vec′

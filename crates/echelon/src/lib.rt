@@ -84,9 +84,9 @@ pub fn insert(
     }
 }
 
-// The column v goes in, unless it is a combination of the slots in the mask `filled`; gives the mask with the slot that it opened. Nothing is
-// kept beside the slots: for the question whether there is a dependency at all. What stands in slots outside the mask means nothing, so an
-// earlier mask gives back the slots that it named.
+// The column v goes in, unless it is a combination of the slots in the mask `filled`; gives the mask with the slot that it opened. Nothing
+// is kept beside the slots: for the question whether there is a dependency at all. What stands in slots outside the mask means nothing, so
+// an earlier mask gives back the slots that it named.
 pub fn grow(v: u64, filled: u64, vec: &mut [u64; PRODUCT_BITS]) -> u64
     requires { ⌜ Masked filled (now vec) ⌝ }
     requires { ⌜ v < 2 ^ productBits ⌝ }

@@ -69,7 +69,8 @@ asked-start {marks} {ys} {z} {t} {vec} {by} {member} p =
     }
 
 module _ {marks ys : List ℕ} {z t i a b v filled : ℕ} {vec by member : List ℕ} (all : Members marks ys)
-    (h : AskedBefore marks ys z t i filled vec by member) (T : TurnOf marks ys z t i a) (b-is : b ≡ bitXor a z) (v-is : v ≡ column maxWires z t a) where
+    (h : AskedBefore marks ys z t i filled vec by member) (T : TurnOf marks ys z t i a)
+    (b-is : b ≡ bitXor a z) (v-is : v ≡ column maxWires z t a) where
   z-is : bitXor a b ≡ z
   z-is = ap (bitXor a) b-is ∙ partner-back a z
 
@@ -91,7 +92,8 @@ module _ {marks ys : List ℕ} {z t i a b v filled : ℕ} {vec by member : List 
         slots = opened-slots (h .slots) (member-lt parities maxWires marks (all .sound) a (a-stands some .member)) o;
         basis =
             rw (o .slot .vec-is, o .by-is, o .member-is)
-            (basis-more productBits (column maxWires z t) (pairTag marks z) (Had marks ys z t i) (Had marks ys z t (i + 1)) (held filled vec)
+            (basis-more productBits (column maxWires z t) (pairTag marks z) (Had marks ys z t i) (Had marks ys z t (i + 1))
+            (held filled vec)
             by member had-wider (h .basis) a (had-last T) (had-new T some) (o .slot .s) (o .slot .left) (o .slot .used) (h .slots .by-long)
             (h .slots .members .long) (rw v-is at (o .slot .stopped)));
       }

@@ -349,7 +349,8 @@ module _ (N : ℕ) (vec by member val : List ℕ) (f : ℕ → ℕ) (long : leng
         let x : ℕ = byMembers by used N in
         let of-f : combine (x % 2 ^ N) (map f member) ≡ combine x (map f member) =
         ap (λ (k : ℕ). combine (x % 2 ^ k) (map f member)) (sym (length-map member f ∙ long)) ∙ combine-whole x (map f member) in
-        let of-val : combine (x % 2 ^ N) val ≡ combine x val = ap (λ (k : ℕ). combine (x % 2 ^ k) val) (sym val-long) ∙ combine-whole x val in
+        let of-val : combine (x % 2 ^ N) val ≡ combine x val =
+        ap (λ (k : ℕ). combine (x % 2 ^ k) val) (sym val-long) ∙ combine-whole x val in
         sym (xor-cancel (combine x (map f member)) (combine x val)) ∙ rw (of-f, of-val) at (mixed N (le-refl _) .0)
 
     -- and it names filled slots

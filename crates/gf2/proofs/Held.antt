@@ -40,7 +40,8 @@ held-off filled vec s e = held-at filled vec s ∙ rw e (zero-mul (getD vec s 0)
 pub held-same : (filled : ℕ) (vec vec′ : List ℕ) → length vec′ ≡ length vec
     → ((s : ℕ) → bit filled s ≡ 1 → getD vec′ s 0 ≡ getD vec s 0) → held filled vec′ ≡ held filled vec
 held-same filled vec vec′ long h =
-    ext-getD 0 (held filled vec′) (held filled vec) (held-long filled vec′ ∙ long ∙ sym (held-long filled vec)) (λ s l. go s (bit-values (bit filled s) (bit-lt filled s)))
+    ext-getD 0 (held filled vec′) (held filled vec) (held-long filled vec′ ∙ long ∙ sym (held-long filled vec))
+    (λ s l. go s (bit-values (bit filled s) (bit-lt filled s)))
   where
     go : (s : ℕ) → (bit filled s ≡ 0) ⊎ (bit filled s ≡ 1) → getD (held filled vec′) s 0 ≡ getD (held filled vec) s 0
     go s (inl e) = held-off filled vec′ s e ∙ sym (held-off filled vec s e)

@@ -33,9 +33,8 @@ pub enum Answer {
     Passed { filled: u64 },
 }
 
-// Whether the column of a offers a separating set for z = a ^ b: where it is a combination of the columns in the slots, and these and a have
-// one of a pair among them. Then the move is written. A column that is no combination goes in. 0 is no
-// member: then nothing is asked.
+// Whether the column of a offers a separating set for z = a ^ b: where it is a combination of the columns in the slots, and these and a
+// have one of a pair among them. Then the move is written. A column that is no combination goes in. 0 is no member: then nothing is asked.
 pub fn offer(
     marks: &[Mark],
     a: Parity,

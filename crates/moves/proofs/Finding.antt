@@ -185,7 +185,8 @@ module _ (size n most : ℕ) (room : 2 ^ n ≤ size) (marks : List ℕ) (sound :
 
 module _ (size n : ℕ) (room : 2 ^ n ≤ size) (marks : List ℕ) (sound : SoundMarks size n marks) (z t : ℕ) (N : ℕ)
     (P : ℕ → Type 0) (stands : (y : ℕ) → P y → Stands marks z t y) (vec by member : List ℕ)
-    (basis : Basis N P (column n z t) (pairTag marks z) vec by member) (member-long : length member ≡ N) (a : ℕ) (a-stands : Stands marks z t a)
+    (basis : Basis N P (column n z t) (pairTag marks z) vec by member) (member-long : length member ≡ N)
+    (a : ℕ) (a-stands : Stands marks z t a)
     (used : ℕ) (reached : Reached vec (column n z t a) 0 used) where
   abbrev m : ℕ
   m = byMembers by used N

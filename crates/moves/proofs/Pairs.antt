@@ -1,5 +1,5 @@
--- For one z: a set whose columns xor to 0, and which has one of a pair, gives a legal move with this z; and where columns that xor to 0 have
--- tags that do, no move with this z is legal.
+-- For one z: a set whose columns xor to 0, and which has one of a pair, gives a legal move with this z; and where columns that xor to 0
+-- have tags that do, no move with this z is legal.
 use mathlib.Core.List.{List, map}
 use mathlib.Core.Logic.{_≢_, _⊎_, inl, inr}
 use mathlib.Core.Path.{_∙_, _≡_, ap, refl, sym}
@@ -66,7 +66,8 @@ module _ (size n most : ℕ) (room : 2 ^ n ≤ size) (marks : List ℕ) (sound :
 -- ---- a legal move, brought to singles and one of each pair
 
 -- a number p with mark m and its partner with mark m′, of which Y has o; l is 1 where p is the smaller, l′ where it is the larger
-split : (o m m′ l l′ c : ℕ) → o ≤ m → m < 2 → m′ < 2 → l + l′ ≡ 1 → o * c ≡ o * (1 - m′) * c + (m * m′ * l * (o * c) + m * m′ * l′ * (o * c))
+split : (o m m′ l l′ c : ℕ) → o ≤ m → m < 2 → m′ < 2 → l + l′ ≡ 1
+    → o * c ≡ o * (1 - m′) * c + (m * m′ * l * (o * c) + m * m′ * l′ * (o * c))
 split zero m m′ l l′ c h hm h′ e = omega arith
 split (suc zero) zero m′ l l′ c h hm h′ e = absurd (omega arith)
 split (suc zero) (suc zero) zero l l′ c h hm h′ e = omega arith
@@ -308,7 +309,8 @@ module _ (size n most : ℕ) (room : 2 ^ n ≤ size) (marks : List ℕ) (sound :
         arith,
         sym (xorAll-map-bit (pairTag marks z) p (listed (2 ^ n) half)) ∙ zero,
         listed-sum half half-two (2 ^ n) (λ q. bit (pairTag marks z q) p),
-        sum-single (2 ^ n) p (λ q. half q * bit (pairTag marks z q) p) (member-lt size n marks sound p (s .member-p)) (λ q h ne. other q p ne),
+        sum-single (2 ^ n) p (λ q. half q * bit (pairTag marks z q) p) (member-lt size n marks sound p (s .member-p))
+            (λ q h ne. other q p ne),
       )
     where
       other : (q p : ℕ) → q ≢ p → half q * bit (pairTag marks z q) p ≡ 0

@@ -1,5 +1,5 @@
--- The finder's question for one z and a wire t of it: the members whose columns are eliminated, their tags, and the set that a mask of slots
--- gives. It is a device of ours, and no part of document 01.
+-- The finder's question for one z and a wire t of it: the members whose columns are eliminated, their tags, and the set that a mask of
+-- slots gives. It is a device of ours, and no part of document 01.
 use mathlib.Core.List.{List}
 use mathlib.Core.Path.{_≡_}
 use Prim.Native.Nat.{_*_, _^_, suc, zero, ℕ}

@@ -11,8 +11,8 @@ unfoldable pub Replays : ℕ → ℕ → List ℕ → List (List ℕ) → List �
 Replays most n m [] m′ = m ≡ m′
 Replays most n m (cells ∷ moves) m′ = (f : LegalCells most n m cells) × Replays most n (carryOut m (f .z) (f .Y)) moves m′
 
--- from the marks m, no legal move has a smaller z than the one made, on the marks that this one gets; z and Y as the cells say them, which for
--- legal cells are those of `Replays`
+-- from the marks m, no legal move has a smaller z than the one made, on the marks that this one gets; z and Y as the cells say them, which
+-- for legal cells are those of `Replays`
 unfoldable pub SmallestEach : ℕ → ℕ → List ℕ → List (List ℕ) → Type 0
 SmallestEach most n m [] = Unit {0}
 SmallestEach most n m (cells ∷ moves) =

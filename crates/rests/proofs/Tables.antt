@@ -55,7 +55,8 @@ pub record ZerosTo (from : ℕ) (out₀ out : List ℕ) (k : ℕ) : Type 0 where
 pub zeros-start : (from : ℕ) (out : List ℕ) → ZerosTo from out out from
 zeros-start from out = record { as-long = refl; kept = λ p l. refl; zeros = λ p a b. absurd (omega arith) }
 
-pub zeros-next : {from k : ℕ} {out₀ out : List ℕ} → ZerosTo from out₀ out k → from ≤ k → k < length out → ZerosTo from out₀ (set out k 0) (k + 1)
+pub zeros-next : {from k : ℕ} {out₀ out : List ℕ} → ZerosTo from out₀ out k → from ≤ k → k < length out
+    → ZerosTo from out₀ (set out k 0) (k + 1)
 zeros-next {from} {k} {out₀} {out} h a l =
     record {
       as-long = length-set out k 0 ∙ h .as-long;

@@ -123,7 +123,8 @@ module _ {n : ℕ} {bytes out log w rows first : List ℕ} {k : ℕ} {last log�
       let tD : tGates D ≡ memberCount (oddSetOf n D) =
       list .t-gates ∙ ap (λ (r : Reading). memberCount (oddSet (r .weights))) (sym (list .reads)) in
       let all : Trimmed n C D log′ counts =
-      whole n (accepted .few) C (accepted .formed) log′ k last (replayed (c .moved)) (smallest (c .moved)) (c .moved .all .none) D (list .formed) wD rD tD
+      whole n (accepted .few) C (accepted .formed) log′ k last (replayed (c .moved)) (smallest (c .moved)) (c .moved .all .none)
+      D (list .formed) wD rD tD
       counts tin (odd ∙ ap memberCount (first-is (c .moved .marked))) tout moves (gates ∙ wrote .counted) in
       let new-C : new ≡ newWeights parities n (weightsOf n C) (oddSetOf n D) =
       sym (ap (λ (r : Reading). r .weights) (list .reads)) ∙ all .weights in

@@ -55,7 +55,8 @@ module _ (n : ℕ) (fit : n ≤ maxWires) (C : List Gate) (fC : AllWellFormed n 
       (replays-signature parities n maxMembers (limits-suffice n fit .0) (oddSetOf n C) (logged moveCells log k) marks first replayed)
       (odd-set-has-signature n (weightsOf n C))
 
-  module _ (smallest : SmallestEach maxMembers n (oddSetOf n C) (logged moveCells log k)) (none : NoneLegal maxMembers n marks) (D : List Gate) (fD : AllWellFormed n D)
+  module _ (smallest : SmallestEach maxMembers n (oddSetOf n C) (logged moveCells log k)) (none : NoneLegal maxMembers n marks)
+      (D : List Gate) (fD : AllWellFormed n D)
       (wD : weightsOf n D ≡ newWeights parities n (weightsOf n C) marks) (rD : read maxWires n D .rows ≡ read maxWires n C .rows)
       (tD : tGates D ≡ memberCount (oddSetOf n D)) where
     odd-D : oddSetOf n D ≡ marks

@@ -62,8 +62,11 @@ loop-again-2 : tie.Need-loop-again-2 Inv-loop μ-loop
 loop-again-2 c =
     let y : tie.After-cell-at Inv-loop μ-loop = search in
     let at : tie.At-loop Inv-loop μ-loop = search in
-    let s : tie.Start Inv-loop μ-loop = search in
-    (search needs, half-skip (now (s .args .ys)) (s .args .t) (at .loop .i) (at .loop .inv .1) (y .cell-at .ensures) (c .if2 .left), at .loop .inv .2)
+    let s : tie.Start Inv-loop μ-loop = search in (
+      search needs,
+      half-skip (now (s .args .ys)) (s .args .t) (at .loop .i) (at .loop .inv .1) (y .cell-at .ensures) (c .if2 .left),
+      at .loop .inv .2,
+    )
 
 returns-3 : tie.Need-returns-3 Inv-loop μ-loop
 returns-3 c =

@@ -59,8 +59,14 @@ add-k-end c =
 search-holds : tie.Need-search-holds Inv-loop μ-loop Inv-search μ-search
 search-holds c =
     let h : tie.After-half-of Inv-loop μ-loop Inv-search μ-search = search in
-    let s : Entry = search in
-    (refl, refl, omega (arith, low-is s), record { vec-long = refl; by-long = refl; members = no-members }, rw (low-is s) (s .pre .1 .1 .0), h .half-of .ensures)
+    let s : Entry = search in (
+      refl,
+      refl,
+      omega (arith, low-is s),
+      record { vec-long = refl; by-long = refl; members = no-members },
+      rw (low-is s) (s .pre .1 .1 .0),
+      h .half-of .ensures,
+    )
 
 abbrev entry : Outer → Entry
 entry up = search

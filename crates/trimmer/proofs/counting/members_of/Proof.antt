@@ -66,7 +66,8 @@ loop-again c =
     let s = entry at in (
       search needs,
       omega (arith, at .loop .inv .1, r .is-member .ensures .1),
-      members-next (now (s .args .marks)) (at .loop .p) (at .loop .count) (r .is-member .result) (at .loop .inv .2) (r .is-member .ensures .0),
+      members-next (now (s .args .marks)) (at .loop .p) (at .loop .count) (r .is-member .result) (at .loop .inv .2)
+          (r .is-member .ensures .0),
     )
 
 returns : tie.Need-returns Inv-loop μ-loop
