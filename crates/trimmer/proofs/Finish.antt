@@ -43,7 +43,7 @@ module _ {n : ℕ} {bytes out log w rows : List ℕ} (c : ReadC n bytes out log 
   pub sound-weights : SoundWeights parities n w
   sound-weights = subst (λ (x : List ℕ). SoundWeights parities n x) (sym w-is) (sound .weights)
 
-  sound-rows : SoundRows maxWires n rows
+  pub sound-rows : SoundRows maxWires n rows
   sound-rows = subst (λ (x : List ℕ). SoundRows maxWires n x) (sym rows-is) (sound .rows)
 
 -- its odd set is marked

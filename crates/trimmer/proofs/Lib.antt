@@ -1,7 +1,6 @@
 pub mod Whole
 pub mod Counted
 pub mod Making
-pub mod Calls
 pub mod TrimWays
 pub mod Finish
 pub mod Laws

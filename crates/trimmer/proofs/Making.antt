@@ -12,13 +12,26 @@ use Rattle.circuit.specs.Limits.{logCells, maxMembers, maxWires, moveCells, par
 use Rattle.circuit.specs.OddSet.{memberCount}
 use Rattle.circuit.specs.Sound.{SoundMarks}
 use Rattle.circuit.specs.TableFaults.{Marked}
+use Rattle.finder.specs.Search.{Searched}
 use Rattle.gf2.proofs.Sum.{sum-const, sum-front, sum-le}
 use Rattle.moves.proofs.Laws.{limits-suffice, move-leaves-sound, move-shrinks}
 use Rattle.moves.proofs.Logs.{cells-length, cells-say, logged-length, logged-more}
 use Rattle.moves.proofs.Replaying.{replays-more, replays-none, replays-shrinks, replays-sound, smallest-more, smallest-none}
 use Rattle.moves.specs.CarryOut.{carryOut}
 use Rattle.moves.specs.Log.{LegalCells, SmallestCells, logged, setOf, zOf}
+use Rattle.moves.specs.Move.{NoneLegal}
+use Rattle.moves.specs.declared.Sought.{Sought}
+use Rattle.moves.specs.declared.Sought.the-variants.{Found, Nothing}
 use Rattle.trimmer.specs.Steps.{Made}
+
+-- what the search says, where it found a move and where it found none
+pub searched-found : (n : ℕ) (marks was cells : List ℕ) {found : Sought} → found ≡ Found → Searched n marks was cells found
+    → SmallestCells maxMembers n marks cells
+searched-found n marks was cells e s = rw e at s
+
+pub searched-none : (n : ℕ) (marks was cells : List ℕ) {found : Sought} → found ≡ Nothing → Searched n marks was cells found
+    → NoneLegal maxMembers n marks
+searched-none n marks was cells e s = (rw e at s) .1
 
 pub made-none : (n : ℕ) (m log : List ℕ) (k : ℕ) → k ≡ 0 → Made n m log k m log
 unfolding logged

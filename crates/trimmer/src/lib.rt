@@ -7,19 +7,21 @@ ghost use Rattle.trimmer.specs.Entry.{Done-with, TrimList, Trimmable};
 pub mod counting;
 pub mod faults;
 pub mod moving;
-pub mod steps;
 
 use circuit::Reply;
 use circuit::faults::list_reply;
+use circuit::limits::Mark;
 use circuit::limits::MoveCell;
+use circuit::limits::TABLE_BYTES;
+use circuit::limits::Weight;
 use counting::members_of;
 use counting::t_gates;
 use faults::trim_lent;
 use moving::make_moves;
 use reader::reading::read_gates;
-use steps::odd_marks;
-use steps::weights_for;
-use steps::write_list;
+use rests::weighing::put_new_weights;
+use synth::write_sound;
+use weights::put_odd_set;
 
 // The counts of a trim: T and T dagger gates of C, the size of its odd set, T and T dagger gates of D, the moves in the log, the gates
 // of D.
@@ -58,19 +60,20 @@ fn trim_accepted(n: usize, gates: &[u8], out: &mut [u8], log: &mut [MoveCell]) -
     let t = read_gates(n, gates);
     let w = t.weights;
     let rows = t.rows;
-    let first = odd_marks(w);
-    let m = make_moves(n, first, log);
-    let last = m.marks;
-    let new = weights_for(n, w, last);
-    let count = write_list(n, new, rows, out);
+    let mut marks = [0 as Mark; TABLE_BYTES];
+    put_odd_set(&w, &mut marks);
+    let odd = members_of(n, &marks);
+    let moves = make_moves(n, &mut marks, log);
+    let tout = members_of(n, &marks);
+    let mut new = [0 as Weight; TABLE_BYTES];
+    put_new_weights(n, &w, &marks, &mut new);
+    let count = write_sound(n, &new, &rows, out);
     let tin = t_gates(gates);
-    let odd = members_of(n, &first);
-    let tout = members_of(n, &last);
     Counts {
         tin: tin,
         odd: odd,
         tout: tout,
-        moves: m.count,
+        moves: moves,
         gates: count,
     }
 }
