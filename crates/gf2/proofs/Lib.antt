@@ -22,3 +22,4 @@ pub mod Symmetric
 pub mod Expansion
 pub mod XorInto
 pub mod BitCounts
+pub mod Superset

@@ -6,3 +6,4 @@ pub mod Table
 pub mod Over
 pub mod Echelon
 pub mod Every
+pub mod Superset
