@@ -2,7 +2,7 @@
 use mathlib.Core.List.{List}
 use mathlib.Core.Logic.{inl, inr, _≢_, _⊎_}
 use mathlib.Core.Path.{ap, refl, sym, _∙_, _≡_}
-use Prim.Native.Nat.{_%_, _*_, _+_, _-_, _/_, _<_, _^_, suc, zero, ℕ, _≤_}
+use Prim.Native.Nat.{_%_, _*_, _+_, _-_, _/_, _<_, _^_, suc, zero, ℕ}
 use native.Mathlib.Decide.{decLt, ℕ-discrete}
 use native.Mathlib.Nat.{add-comm, mul-comm}
 use native.Mathlib.Omega.{arith}
@@ -16,7 +16,7 @@ use Rattle.gf2.specs.Sum.{sum}
 use Rattle.phase.proofs.ByCoefficients.{minus4}
 use Rattle.phase.proofs.Sums.{L, Q, SameSums}
 use Rattle.phase.proofs.WireSums.{apart-other, apart-same, few-zero}
-use Rattle.phase.proofs.Wires.{is-one, is-two, low-one, low-two, next-two, ones-one, ones-two}
+use Rattle.phase.proofs.Wires.{low-one, low-two, next-two, ones-one, ones-two}
 use Rattle.phase.specs.Coefficients.{l, q}
 use Rattle.phase.specs.NewWeights.{apart, byWires, next, oneRest, pairRest, rest}
 
@@ -61,26 +61,6 @@ module _ (w u : List ℕ) where
         go (suc zero) a b = absurd (a refl)
         go (suc (suc zero)) a b = absurd (b refl)
         go (suc (suc (suc o))) a b = refl
-
-    -- as code finds it: by count_ones, and trailing_zeros at a width of k bits
-    pub rest-at-width : (k p : ℕ) → n ≤ k → p < 2 ^ n
-        → rest n w u p ≡ byWires (ones p) (oneRest n w u (lowest k p)) (pairRest w u (lowest k p) (next k p))
-    unfolding rest byWires
-    rest-at-width k p h g = go (ones p) refl
-      where
-        go : (o : ℕ) → ones p ≡ o
-            → byWires o (oneRest n w u (lowest n p)) (pairRest w u (lowest n p) (next n p))
-            ≡ byWires o (oneRest n w u (lowest k p)) (pairRest w u (lowest k p) (next k p))
-        go zero e = refl
-        go (suc zero) e = let t = is-one n p g e in rw (t .2, low-one n (t .0) (t .1), low-one k (t .0) (omega (arith, t .1)))
-        go (suc (suc zero)) e =
-            let t = is-two n p g e in
-            let i : ℕ = t .0 in
-            let j : ℕ = t .1 in
-            let ij : i < j = t .2 in
-            let jn : j < n = t .3 in
-            rw (t .4, low-two n i j ij (omega arith), low-two k i j ij (omega arith), next-two n i j ij jn, next-two k i j ij (omega arith))
-        go (suc (suc (suc o))) e = refl
 
     pub rest-zero : rest n w u 0 ≡ 0
     unfolding rest byWires ones onesIn

@@ -1,4 +1,4 @@
-pub mod Tables
+pub mod BlockSums
 pub mod Difference
 pub mod RestSteps
 pub mod Ways

@@ -1,2 +1,3 @@
+pub mod Summing
 pub mod Rests
 pub mod Entry

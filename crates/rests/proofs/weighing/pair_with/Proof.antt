@@ -1,41 +1,34 @@
--- Another wire, above or below, or the same.
+-- Another wire, or the same.
 use native.Mathlib.Omega.{arith}
 use borrow.Author.Needs.{needs}
 use denote.Ref.{now}
-use Rattle.circuit.specs.Limits.{maxWires}
-use Rattle.rests.proofs.RestSteps.{higher-wire, lower-wire, same-wire}
+use Rattle.rests.proofs.RestSteps.{other-wire, same-wire}
 use Rattle.rests.proofs.weighing.pair_with.Statement.{statement}
 use Rattle.rests.proofs.weighing.pair_with.Tie as tie
 
 returns : tie.Need-returns
 returns c =
     let s : tie.Start = search in
-    same-wire maxWires (now (s .args .q)) (s .args .i) (s .args .j) (omega arith)
+    same-wire (now (s .args .s)) (s .args .p) (s .args .q) (omega arith)
+
+add-pair-rest : tie.Need-add-pair-rest
+add-pair-rest c = let s : tie.Start = search in record { fits = omega (arith, s .pre (omega arith)) }
+
+shared-slice-read-pair-rest : tie.Need-shared-slice-read-pair-rest
+shared-slice-read-pair-rest c = let s : tie.Start = search in s .pre (omega arith)
 
 returns-2 : tie.Need-returns-2
 returns-2 c =
     let r : tie.After-pair-rest = search in
     let s : tie.Start = search in
-    lower-wire maxWires (now (s .args .q)) (s .args .i) (s .args .j) _ (omega arith) (search) (omega arith) (r .pair-rest .ensures .0)
-
-returns-3 : tie.Need-returns-3
-returns-3 c =
-    let r : tie.After-pair-rest2 = search in
-    let s : tie.Start = search in
-    higher-wire maxWires (now (s .args .q)) (s .args .i) (s .args .j) _ (omega arith) (search) (omega arith) (r .pair-rest2 .ensures .0)
+    (other-wire (now (s .args .s)) (s .args .p) (s .args .q) _ (omega arith) (r .pair-rest .ensures .0), search)
 
 pub pair-with-spec : {M : Type 1} → statement M
 pair-with-spec =
     tie.close
     (tie.spec
     returns
-    (λ c. search needs)
-    (λ c. search needs)
-    (λ c. search needs)
+    add-pair-rest
+    shared-slice-read-pair-rest
     (λ c κs. search needs)
-    returns-2
-    (λ c. search needs)
-    (λ c. search needs)
-    (λ c. search needs)
-    (λ c κs. search needs)
-    returns-3)
+    returns-2)
