@@ -2,21 +2,24 @@
 use mathlib.Core.List.{List}
 use mathlib.Core.Logic.{_≢_}
 use mathlib.Core.Path.{_∙_, _≡_, ap, refl, sym}
-use Prim.Native.Nat.{_%_, _+_, _-_, _/_, _<_, _^_, _≤_, suc, ℕ}
+use Prim.Native.Nat.{_+_, _-_, _/_, _<_, _^_, _≤_, suc, ℕ}
 use native.Mathlib.Decide.{decLt, ℕ-discrete}
+use native.Mathlib.Nat.{le-refl}
 use native.Mathlib.Omega.{arith}
 use lib.Bits.{bitXor}
-use lib.Count.{leading-top, leadingZeros}
+use lib.Count.{leading-top, leadingZeros, trailingZeros}
 use lib.ListN.{getD, length, length-set, set}
 use lib.Pow.{pow-mono}
 use lib.Seq.{getD-set-other, getD-set-same}
 use Rattle.circuit.specs.Limits.{parities, productBits}
 use Rattle.gf2.proofs.Basis.{by-off, by-on}
 use Rattle.gf2.proofs.Echelon.{reached-step, step-lt}
+use Rattle.gf2.proofs.Leading.{bit-counted, bit-from, bit-under}
+use Rattle.gf2.proofs.Steady.{steady}
 use Rattle.gf2.specs.Bit.{bit}
 use Rattle.gf2.specs.Echelon.{Reached, Shape, Stopped, byMembers}
 use Rattle.gf2.specs.Over.{Below}
-use Rattle.echelon.specs.Slots.{LeadingBit, Opens, Slots}
+use Rattle.echelon.specs.Slots.{LeadingBit, NextSlot, Opens, Slots}
 
 -- ---- the leading bit, from the count of zeros above it in a word of w + 1 bits
 
@@ -80,17 +83,51 @@ opened-slots {y} {by = by} {member = member} slots l o =
           };
     })
 
+-- ---- the next slot that a mask names, from the count of zeros below it in a word of w bits
+
+pub next-slot : (w m s : ℕ) → productBits ≤ w → NextSlot m s (s + trailingZeros w (m / 2 ^ s))
+next-slot w m s wide =
+    record {
+      from = omega arith;
+      passed =
+          λ j g l.
+          let e : j ≡ s + (j - s) = omega arith in
+          ap (bit m) e ∙ sym (bit-from m s (j - s)) ∙ bit-under w (m / 2 ^ s) (j - s) (omega arith);
+      named = λ l. sym (bit-from m s (trailingZeros w (m / 2 ^ s))) ∙ bit-counted w (m / 2 ^ s) (omega arith);
+    }
+
 -- ---- from slots to members: the loop over the slots
 
-pub mask-start : (by : List ℕ) (used : ℕ) → used ≡ byMembers by used 0
+-- those below k were gone through, and s is the next one that the mask names
+pub record MaskTo (by : List ℕ) (used m s : ℕ) : Type 0 where
+  pub k : ℕ
+  pub inside : k ≤ productBits
+  pub next : NextSlot m k s
+  pub is : m ≡ byMembers by used k
+
+pub mask-start : (by : List ℕ) {used s : ℕ} → NextSlot used 0 s → MaskTo by used used s
 unfolding byMembers
-mask-start by used = refl
+mask-start by t = record { k = 0; inside = omega arith; next = t; is = refl }
 
-module _ (by : List ℕ) (used m k : ℕ) (is : m ≡ byMembers by used k) where
-  pub mask-on : m / 2 ^ k % 2 ≡ 1 → bitXor m (getD by k 0) ≡ byMembers by used (k + 1)
-  unfolding bit
-  mask-on e = ap (λ (x : ℕ). bitXor x (getD by k 0)) is ∙ sym (by-on by used k (ap (λ (x : ℕ). bit x k) (sym is) ∙ e))
+module _ {by : List ℕ} {used m s : ℕ} (h : MaskTo by used m s) where
+  -- those between change nothing
+  mask-at : (n : ℕ) → h .k ≤ n → n ≤ s → m ≡ byMembers by used n
+  mask-at n g l =
+      h .is
+      ∙ sym (steady (byMembers by used) (h .k) n g
+      (λ j f i e. by-off by used j (ap (λ (x : ℕ). bit x j) (e ∙ sym (h .is)) ∙ h .next .passed j f (omega arith)) ∙ e))
 
-  pub mask-off : m / 2 ^ k % 2 ≢ 1 → m ≡ byMembers by used (k + 1)
-  unfolding bit
-  mask-off ne = is ∙ sym (by-off by used k (ap (λ (x : ℕ). bit x k) (sym is) ∙ omega arith))
+  pub mask-turn : {s′ : ℕ} → s < productBits → NextSlot (bitXor m (getD by s 0)) (s + 1) s′ → MaskTo by used (bitXor m (getD by s 0)) s′
+  mask-turn l t =
+      let is : m ≡ byMembers by used s = mask-at s (h .next .from) (le-refl s) in
+      record {
+        k = s + 1;
+        inside = omega arith;
+        next = t;
+        is =
+            ap (λ (x : ℕ). bitXor x (getD by s 0)) is
+            ∙ sym (by-on by used s (ap (λ (x : ℕ). bit x s) (sym is) ∙ h .next .named l));
+      }
+
+  pub mask-end : productBits ≤ s → m ≡ byMembers by used productBits
+  mask-end l = mask-at productBits (h .inside) l

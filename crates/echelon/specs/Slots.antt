@@ -63,6 +63,12 @@ pub record Grows (v filled : ℕ) (vec vec′ : List ℕ) (r : ℕ) : Type 0 whe
   pub wider : (s : ℕ) → bit filled s ≡ 1 → bit r s ≡ 1
   pub kept : (g : ℕ) → ((s : ℕ) → bit g s ≡ 1 → bit filled s ≡ 1) → held g vec′ ≡ held g vec
 
+-- r is the first slot from s on that m names; where there is none, it is no slot
+pub record NextSlot (m s r : ℕ) : Type 0 where
+  pub from : s ≤ r
+  pub passed : (j : ℕ) → s ≤ j → j < r → bit m j ≡ 0
+  pub named : r < productBits → bit m r ≡ 1
+
 -- nothing changed
 pub record Same (vec by member vec′ by′ member′ : List ℕ) : Type 0 where
   pub vec-is : vec′ ≡ vec

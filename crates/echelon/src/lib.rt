@@ -3,11 +3,11 @@
 // column before. What stands in and beside the others means nothing: with the mask 0 all slots are empty. Internal: no entry for users.
 ghost use mathlib.Core.Logic.{_≢_};
 ghost use mathlib.Core.Path.{_≡_};
-ghost use Prim.Native.Nat.{_<_, _^_};
+ghost use Prim.Native.Nat.{_<_, _^_, _≤_};
 ghost use lib.ListN.{length};
 ghost use Rattle.circuit.specs.Limits.{parities, productBits};
 ghost use Rattle.gf2.specs.Echelon.{byMembers};
-ghost use Rattle.echelon.specs.Slots.{Grows, Inserts, LeadingBit, Masked, Reduces, Slots};
+ghost use Rattle.echelon.specs.Slots.{Grows, Inserts, LeadingBit, Masked, NextSlot, Reduces, Slots};
 use circuit::cells::put_cell;
 use circuit::limits::PRODUCT_BITS;
 use circuit::limits::Parity;
@@ -111,13 +111,19 @@ pub fn by_members(used: u64, by: &[u64; PRODUCT_BITS]) -> u64
     ensures { λ r. ⌜ r ≡ byMembers (now (by .entry)) used productBits ⌝ }
 {
     let mut m = used;
-    let mut s: usize = 0;
+    let mut s = next_slot(m, 0);
     while s < PRODUCT_BITS {
-        let k = s;
-        s += 1;
-        if (m >> k) % 2 == 1 {
-            m = m ^ by[k];
-        }
+        m = m ^ by[s];
+        s = next_slot(m, s + 1);
     }
     m
+}
+
+// The first slot from s on that the mask names; where it names none, a number from PRODUCT_BITS up. A loop over the slots of a mask so goes
+// from one to the next, with no turn for those between.
+pub fn next_slot(m: u64, s: usize) -> usize
+    requires { ⌜ s ≤ productBits ⌝ }
+    ensures { λ r. ⌜ NextSlot m s r ⌝ }
+{
+    s + u64::trailing_zeros(m >> s) as usize
 }

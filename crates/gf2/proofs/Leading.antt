@@ -8,7 +8,7 @@ use native.Mathlib.Omega.{arith}
 use lib.Arith.{digits-div}
 use lib.Bits.{bitXor, xor-block, xor-lt}
 use lib.Count.{trailingZeros, under}
-use lib.Pow.{pow-mono}
+use lib.Pow.{pow-mono, shr-shr}
 use Rattle.gf2.proofs.Bit.{bit-high, bit-suc, bit-xor, bit-zero}
 use Rattle.gf2.specs.Bit.{bit}
 
@@ -68,3 +68,32 @@ pub lowest-set : (w n p : ℕ) → n ≤ w → p ≢ 0 → p < 2 ^ n → (traili
 lowest-set w n p h ne l =
     let e : bit p (trailingZeros w p) ≡ 1 = bit-lowest w p ne (lt-of-lt-of-le l (pow-mono h)) in
     (bit-inside n p (trailingZeros w p) l e, e)
+
+-- ---- the zeros below the lowest of k bits that is set, as they are counted
+
+pub bit-counted : (k p : ℕ) → trailingZeros k p < k → bit p (trailingZeros k p) ≡ 1
+unfolding trailingZeros
+bit-counted zero p l = absurd (omega arith)
+bit-counted (suc k) p l = go (p % 2) refl l (bit-counted k (p / 2))
+  where
+    go : (c : ℕ) → p % 2 ≡ c → under c (trailingZeros k (p / 2)) < suc k
+        → (trailingZeros k (p / 2) < k → bit (p / 2) (trailingZeros k (p / 2)) ≡ 1) → bit p (under c (trailingZeros k (p / 2))) ≡ 1
+    go zero e h r = bit-suc p (trailingZeros k (p / 2)) ∙ r (omega arith)
+    go (suc zero) e h r = bit-zero p ∙ e
+    go (suc (suc c)) e h r = absurd (omega arith)
+
+pub bit-under : (k p i : ℕ) → i < trailingZeros k p → bit p i ≡ 0
+unfolding trailingZeros
+bit-under zero p i l = absurd (omega arith)
+bit-under (suc k) p i l = go (p % 2) refl i l (bit-under k (p / 2))
+  where
+    go : (c : ℕ) → p % 2 ≡ c → (i : ℕ) → i < under c (trailingZeros k (p / 2))
+        → ((j : ℕ) → j < trailingZeros k (p / 2) → bit (p / 2) j ≡ 0) → bit p i ≡ 0
+    go zero e zero h r = bit-zero p ∙ e
+    go zero e (suc i) h r = bit-suc p i ∙ r i (omega arith)
+    go (suc c) e i h r = absurd (omega arith)
+
+-- the bits of a number from s on
+pub bit-from : (p s i : ℕ) → bit (p / 2 ^ s) i ≡ bit p (s + i)
+unfolding bit
+bit-from p s i = ap (λ (x : ℕ). x % 2) (shr-shr p s i)

@@ -14,6 +14,7 @@ pub mod Cubic
 pub mod Pairing
 pub mod Dependence
 pub mod Leading
+pub mod Steady
 pub mod Combination
 pub mod Held
 pub mod Echelon

@@ -1,53 +1,40 @@
 -- Marking what a mask names, and listing the marks, one turn of each loop after the other.
 use mathlib.Core.List.{List}
 use mathlib.Core.Logic.{_≢_}
-use mathlib.Core.Path.{_∙_, _≡_, ap, ap₂, refl, subst, sym}
-use Prim.Native.Nat.{_%_, _+_, _/_, _<_, _^_, _≤_, suc, zero, ℕ}
-use native.Mathlib.Decide.{ℕ-discrete}
-use native.Mathlib.Nat.{one-mul, zero-mul}
+use mathlib.Core.Path.{_∙_, _≡_, ap, ap₂, subst, sym}
+use Prim.Native.Nat.{_%_, _+_, _<_, _^_, _≤_, suc, zero, ℕ}
+use native.Mathlib.Decide.{decLt, ℕ-discrete}
+use native.Mathlib.Nat.{le-refl, one-mul, zero-mul}
 use native.Mathlib.Numerals.{add-one}
 use native.Mathlib.Omega.{arith}
-use lib.Bits.{bitXor, xor-lt, xor-zero-r}
+use lib.Bits.{bitOr, bitXor, or-lt, xor-lt, xor-zero-r}
 use lib.ListN.{getD, length, length-set, replicate, set}
 use lib.Seq.{getD-set-other}
 use Rattle.circuit.proofs.OddSet.{members-sum}
 use Rattle.circuit.specs.Limits.{maxMembers, maxWires, moveCells, moveHead, parities, productBits, tableBytes}
 use Rattle.circuit.specs.OddSet.{memberCount}
-use Rattle.echelon.specs.Slots.{SlotMembers}
+use Rattle.echelon.specs.Slots.{NextSlot, SlotMembers}
 use Rattle.gf2.proofs.Combination.{combine-whole}
 use Rattle.gf2.proofs.Selection.{combine-first, combine-next}
+use Rattle.gf2.proofs.Steady.{steady}
+use Rattle.gf2.proofs.Table.{getD-zeros}
+use Rattle.gf2.proofs.Xor.{or-left, or-right}
 use Rattle.gf2.specs.Bit.{bit}
 use Rattle.gf2.specs.Selection.{combine}
 use Rattle.gf2.specs.Sum.{sum}
 use Rattle.moves.proofs.Flips.{flip-bits}
 use Rattle.moves.proofs.Logs.{cells-count, cells-more, cells-none}
-use Rattle.moves.proofs.Sets.{listed-length, listed-off, listed-on, listed-room}
+use Rattle.moves.proofs.Sets.{listed-end, listed-length, listed-off, listed-on, listed-room}
 use Rattle.moves.proofs.Naming.{Room, flipped-few, flipped-off, named-bits, named-few, named-from, named-length, named-off, named-on}
 use Rattle.moves.specs.CarryOut.{flip}
 use Rattle.moves.specs.Log.{asCells}
 use Rattle.moves.specs.Pair.{PairIn, mended, named}
 use Rattle.moves.specs.Sets.{listed}
-use Rattle.kernel.specs.Naming.{Few, MoveOf, NoPair, PairAt, SetNamed, listedCells, setWith, totalWith}
+use Rattle.kernel.specs.Naming.{Few, FewBelow, MoveOf, NamesSet, NoPair, NoneFrom, PairAt, SetNamed, listedCells, setWith, totalWith}
 
--- ---- the loop over the slots
-
-pub naming-start : (member : List ℕ) (m : ℕ) → replicate parities 0 ≡ named parities member m 0
-unfolding named
-naming-start member m = refl
-
-module _ (member : List ℕ) (m k : ℕ) (marks : List ℕ) (is : marks ≡ named parities member m k) where
-  pub naming-long : length marks ≡ tableBytes
-  naming-long = ap length is ∙ named-length parities member m k
-
-  -- slot k is named, and p is its member
-  pub naming-named : (marks′ : List ℕ) (p : ℕ) → m / 2 ^ k % 2 ≡ 1 → p ≡ getD member k 0 → marks′ ≡ flip marks p
-      → marks′ ≡ named parities member m (k + 1)
-  unfolding bit
-  naming-named marks′ p e of t = t ∙ ap₂ flip is of ∙ sym (named-on parities member m k e)
-
-  pub naming-unnamed : m / 2 ^ k % 2 ≢ 1 → marks ≡ named parities member m (k + 1)
-  unfolding bit
-  naming-unnamed ne = is ∙ sym (named-off parities member m k (omega arith))
+-- the member of a slot is a parity
+pub member-fits : {member : List ℕ} {s y : ℕ} → SlotMembers member → s < productBits → y ≡ getD member s 0 → y < parities
+member-fits {s = s} h l of = omega (arith, of, h .below s (omega (arith, h .long)))
 
 -- the members of marks that are 0 or 1 are their sum
 marked-sum : (marks : List ℕ) → length marks ≡ tableBytes → ((p : ℕ) → getD marks p 0 < 2)
@@ -78,37 +65,106 @@ module _ (m : ℕ) {a : ℕ} {member : List ℕ} (h : SlotMembers member) (fits 
       }
 
   -- all slots passed, and the mark of a flipped
-  pub set-marks : {w set : List ℕ} → w ≡ named parities member m productBits → set ≡ flip w a → SetNamed a m member set
+  set-marks : {w set : List ℕ} → w ≡ named parities member m productBits → set ≡ flip w a → SetNamed a m member set
   set-marks {w} {set} is t =
       let e : set ≡ setWith a m member = t ∙ ap (λ (x : List ℕ). flip x a) is in
       record { is = e; small = subst Few (sym e) small }
 
 -- ---- the xor of the members passed
 
-pub xor-start : (m : ℕ) (member : List ℕ) → 0 ≡ combine (m % 2 ^ 0) member
+xor-start : (m : ℕ) (member : List ℕ) → 0 ≡ combine (m % 2 ^ 0) member
 xor-start m member = sym (combine-first m member)
 
-module _ (m k : ℕ) (member : List ℕ) (x : ℕ) (is : x ≡ combine (m % 2 ^ k) member) where
-  pub xor-named : (y : ℕ) → m / 2 ^ k % 2 ≡ 1 → y ≡ getD member k 0 → bitXor x y ≡ combine (m % 2 ^ (k + 1)) member
-  unfolding bit
-  xor-named y e of =
-      ap₂ bitXor is of
-      ∙ sym (ap (λ (j : ℕ). combine (m % 2 ^ j) member) (add-one k) ∙ combine-next m k member
-      ∙ rw (e, one-mul (getD member k 0)))
+module _ (m k : ℕ) (member : List ℕ) where
+  xor-on : bit m k ≡ 1 → combine (m % 2 ^ (k + 1)) member ≡ bitXor (combine (m % 2 ^ k) member) (getD member k 0)
+  xor-on e = ap (λ (j : ℕ). combine (m % 2 ^ j) member) (add-one k) ∙ combine-next m k member ∙ rw (e, one-mul (getD member k 0))
 
-  pub xor-unnamed : m / 2 ^ k % 2 ≢ 1 → x ≡ combine (m % 2 ^ (k + 1)) member
-  unfolding bit
-  xor-unnamed ne =
-      let z : m / 2 ^ k % 2 ≡ 0 = omega arith in
-      is
-      ∙ sym (ap (λ (j : ℕ). combine (m % 2 ^ j) member) (add-one k) ∙ combine-next m k member
-      ∙ rw (z, zero-mul (getD member k 0)) (xor-zero-r (combine (m % 2 ^ k) member)))
+  xor-off : bit m k ≡ 0 → combine (m % 2 ^ (k + 1)) member ≡ combine (m % 2 ^ k) member
+  xor-off e =
+      ap (λ (j : ℕ). combine (m % 2 ^ j) member) (add-one k) ∙ combine-next m k member
+      ∙ rw (e, zero-mul (getD member k 0)) (xor-zero-r (combine (m % 2 ^ k) member))
 
 -- all of them
-pub xor-whole : (m a : ℕ) {member : List ℕ} {x : ℕ} → SlotMembers member → x ≡ combine (m % 2 ^ productBits) member
+xor-whole : (m a : ℕ) {member : List ℕ} {x : ℕ} → SlotMembers member → x ≡ combine (m % 2 ^ productBits) member
     → bitXor x a ≡ totalWith a m member
 xor-whole m a {member} h is =
     ap (λ (y : ℕ). bitXor y a) (is ∙ ap (λ (k : ℕ). combine (m % 2 ^ k) member) (sym (h .long)) ∙ combine-whole m member)
+
+-- ---- the loop over the slots
+
+-- one more is marked
+flip-none : (w : List ℕ) (top top′ q : ℕ) → top ≤ top′ → q ≤ top′ → NoneFrom (top + 1) w → NoneFrom (top′ + 1) (flip w q)
+flip-none w top top′ q l g none p h = getD-set-other w q p ((getD w q 0 + 1) % 2) 0 (omega arith) ∙ none p (omega arith)
+
+-- those below k were gone through, and s is the next one that m names: the marks, their xor x, and what none of them is above
+pub record NamedTo (a m : ℕ) (member : List ℕ) (s : ℕ) (marks : List ℕ) (x top : ℕ) : Type 0 where
+  pub k : ℕ
+  pub inside : k ≤ productBits
+  pub next : NextSlot m k s
+  pub marks-are : marks ≡ named parities member m k
+  pub xor-is : x ≡ combine (m % 2 ^ k) member
+  pub a-to : a ≤ top
+  pub fits : top < parities
+  pub none : NoneFrom (top + 1) marks
+
+pub naming-start : (m : ℕ) (member : List ℕ) {a s : ℕ} {marks : List ℕ} → a < parities → marks ≡ replicate tableBytes 0 → NextSlot m 0 s
+    → NamedTo a m member s marks 0 a
+unfolding named
+naming-start m member {a} fits e t =
+    record {
+      k = 0;
+      inside = omega arith;
+      next = t;
+      marks-are = e;
+      xor-is = xor-start m member;
+      a-to = le-refl a;
+      fits = fits;
+      none = λ p l. ap (λ (w : List ℕ). getD w p 0) e ∙ getD-zeros tableBytes p;
+    }
+
+module _ {a m : ℕ} {member : List ℕ} {s : ℕ} {marks : List ℕ} {x top : ℕ} (h : NamedTo a m member s marks x top) where
+  pub naming-long : length marks ≡ tableBytes
+  naming-long = ap length (h .marks-are) ∙ named-length parities member m (h .k)
+
+  -- the slots between change nothing
+  marks-at : (n : ℕ) → h .k ≤ n → n ≤ s → marks ≡ named parities member m n
+  marks-at n g l =
+      h .marks-are
+      ∙ sym (steady (named parities member m) (h .k) n g
+      (λ j f i e. named-off parities member m j (h .next .passed j f (omega arith)) ∙ e))
+
+  xor-at : (n : ℕ) → h .k ≤ n → n ≤ s → x ≡ combine (m % 2 ^ n) member
+  xor-at n g l =
+      h .xor-is
+      ∙ sym (steady (λ (j : ℕ). combine (m % 2 ^ j) member) (h .k) n g
+      (λ j f i e. xor-off m j member (h .next .passed j f (omega arith)) ∙ e))
+
+  module _ (slots : SlotMembers member) where
+    pub naming-turn : {y s′ : ℕ} {marks′ : List ℕ} → s < productBits → y ≡ getD member s 0 → marks′ ≡ flip marks y → NextSlot m (s + 1) s′
+        → NamedTo a m member s′ marks′ (bitXor x y) (bitOr top y)
+    naming-turn {y} {s′} {marks′} l of t next =
+        let on : bit m s ≡ 1 = h .next .named l in
+        record {
+          k = s + 1;
+          inside = omega arith;
+          next = next;
+          marks-are = t ∙ ap₂ flip (marks-at s (h .next .from) (le-refl s)) of ∙ sym (named-on parities member m s on);
+          xor-is = ap₂ bitXor (xor-at s (h .next .from) (le-refl s)) of ∙ sym (xor-on m s member on);
+          a-to = omega (arith, h .a-to, or-left top y);
+          fits = or-lt maxWires top y (h .fits) (member-fits slots l of);
+          none = rw t (flip-none marks top (bitOr top y) y (or-left top y) (or-right top y) (h .none));
+        }
+
+    -- all slots passed, and a is marked
+    pub naming-end : {marks′ : List ℕ} → a < parities → productBits ≤ s → marks′ ≡ flip marks a
+        → NamesSet a m member marks′ (bitXor x a) top
+    naming-end a-fits l t =
+        record {
+          named = set-marks m slots a-fits (marks-at productBits (h .inside) l) t;
+          total-is = xor-whole m a slots (xor-at productBits (h .inside) l);
+          fits = h .fits;
+          none = rw t (flip-none marks top top a (le-refl top) (h .a-to) (h .none));
+        }
 
 -- ---- the set mended
 
@@ -154,6 +210,18 @@ module _ {set : List ℕ} (h : Few set) (z y : ℕ) (z-fits : z < parities) (y-f
   mended-few zero = h
   mended-few (suc total) = flipped-twice
 
+  -- and none above the partner and those before
+  mended-below : (total top : ℕ) → NoneFrom (top + 1) set → NoneFrom (bitOr top (bitXor y z) + 1) (mended total z y set)
+  unfolding mended
+  mended-below zero top none = λ p l. none p (omega (arith, or-left top (bitXor y z)))
+  mended-below (suc total) top none =
+      flip-none once top (bitOr top (bitXor y z)) (bitXor y z) (or-left top (bitXor y z)) (or-right top (bitXor y z))
+      (flip-none set top top y (le-refl top) (go (decLt top y)) none)
+    where
+      go : Dec (top < y) → y ≤ top
+      go (yes l) = absurd (omega (arith, on, none y (omega arith)))
+      go (no l) = omega arith
+
 -- ---- the search for one of a pair
 
 -- it is none of the members of the first k slots that m names
@@ -164,21 +232,21 @@ pub pair-found : {marks set : List ℕ} {z y : ℕ} → length set ≡ tableByte
 pair-found long l p = record { some = λ h. p; none = λ h. absurd (omega arith) }
 
 module _ (marks set : List ℕ) (z m : ℕ) (member : List ℕ) {k : ℕ} (none : NoneTo marks z set m member k) where
-  next : (bit m k ≡ 1 → PairIn marks z set (getD member k 0) → ⊥) → NoneTo marks z set m member (k + 1)
-  next here j l e q = go (ℕ-discrete j k)
+  -- nor of those up to the next that m names
+  pub none-next : {s : ℕ} → NextSlot m k s → NoneTo marks z set m member s
+  none-next t j l e q = go (decLt j k)
     where
-      go : Dec (j ≡ k) → ⊥
-      go (yes d) = here (rw d at e) (rw d at q)
-      go (no ne) = none j (omega arith) e q
+      go : Dec (j < k) → ⊥
+      go (yes g) = none j g e q
+      go (no g) = omega (arith, e, t .passed j (omega arith) l)
 
   -- the member of slot k is none
   pub none-lone : {y : ℕ} → y ≡ getD member k 0 → (PairIn marks z set y → ⊥) → NoneTo marks z set m member (k + 1)
-  none-lone is never = next (λ e q. never (rw is q))
-
-  -- m does not name the slot
-  pub none-unnamed : m / 2 ^ k % 2 ≢ 1 → NoneTo marks z set m member (k + 1)
-  unfolding bit
-  none-unnamed ne = next (λ e. absurd (ne e))
+  none-lone is never j l e q = go (ℕ-discrete j k)
+    where
+      go : Dec (j ≡ k) → ⊥
+      go (yes d) = never (rw is (rw d at q))
+      go (no ne) = none j (omega arith) e q
 
 -- none of the slots' members, nor a: none at all
 pub pair-none : (marks : List ℕ) (z : ℕ) {set member : List ℕ} {a m k : ℕ} → SetNamed a m member set → (PairIn marks z set a → ⊥)
@@ -208,9 +276,19 @@ module _ {marks member set : List ℕ} {z a m r : ℕ} (w : SetNamed a m member 
     one : PairIn marks z set r
     one = p .some (omega (arith, w .small .long))
 
-    -- mended, it is small enough still
-    pub mended-set : (total : ℕ) {set′ : List ℕ} → z < parities → set′ ≡ mended total z r set → Few set′
-    mended-set total z-fits e = rw e (mended-few (w .small) z r z-fits (omega arith) (one .on) total)
+    -- the partner of r is a parity, and so is an or with it
+    pub end-fits : (top : ℕ) → z < parities → top < parities → bitOr top (bitXor r z) < parities
+    end-fits top z-fits top-fits = or-lt maxWires top (bitXor r z) top-fits (xor-lt maxWires r z l z-fits)
+
+    -- mended, it is small enough still, and none of it is above that
+    pub mended-set : {total top e : ℕ} {set′ : List ℕ} → z < parities → NamesSet a m member set total top → e ≡ bitOr top (bitXor r z)
+        → set′ ≡ mended total z r set → FewBelow (e + 1) set′
+    mended-set {total} {top} z-fits n e t =
+        rw (e, t) (record {
+          small = mended-few (w .small) z r z-fits l (one .on) total;
+          inside = omega (arith, end-fits top z-fits (n .fits));
+          none = mended-below (w .small) z r z-fits l (one .on) total top (n .none);
+        })
 
     -- and its cells are those of the move
     pub move-of : {total : ℕ} {set′ cells : List ℕ} → total ≡ totalWith a m member → set′ ≡ mended total z r set
@@ -258,3 +336,9 @@ module _ (z : ℕ) (marks : List ℕ) (h : Few marks) (y : ℕ) (inside : y < pa
 
   pub list-off : getD marks y 0 ≢ 1 → ListedTo z marks (y + 1) cells
   list-off ne = is ∙ ap (asCells maxMembers z) (sym (listed-off y (λ p. getD marks p 0) (omega (arith, h .bits y))))
+
+-- all that can be in the set were passed
+pub list-end : (z : ℕ) (marks : List ℕ) {end : ℕ} (cells : List ℕ) → FewBelow end marks → ListedTo z marks end cells
+    → cells ≡ listedCells z marks
+list-end z marks {end} cells h is =
+    is ∙ ap (asCells maxMembers z) (sym (listed-end end parities (λ p. getD marks p 0) (h .inside) (h .none)))

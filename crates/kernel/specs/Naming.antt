@@ -1,7 +1,7 @@
 -- What naming a set promises.
 use mathlib.Core.List.{List}
 use mathlib.Core.Path.{_≡_}
-use Prim.Native.Nat.{_<_, _≤_, ℕ}
+use Prim.Native.Nat.{_+_, _<_, _≤_, ℕ}
 use lib.Bits.{bitXor}
 use lib.ListN.{getD, length}
 use Rattle.circuit.specs.Limits.{maxMembers, parities, productBits, tableBytes}
@@ -28,13 +28,30 @@ pub record SetNamed (a m : ℕ) (member set : List ℕ) : Type 0 where
   pub is : set ≡ setWith a m member
   pub small : Few set
 
+-- nothing is marked from k up
+abbrev pub NoneFrom : ℕ → List ℕ → Type 0
+NoneFrom k set = (p : ℕ) → k ≤ p → getD set p 0 ≡ 0
+
 -- the xor of them all
 abbrev pub totalWith : ℕ → ℕ → List ℕ → ℕ
 totalWith a m member = bitXor (combine m member) a
 
+-- all that is said of them: the marks, their xor, and a number that none of them is above
+pub record NamesSet (a m : ℕ) (member set : List ℕ) (total top : ℕ) : Type 0 where
+  pub named : SetNamed a m member set
+  pub total-is : total ≡ totalWith a m member
+  pub fits : top < parities
+  pub none : NoneFrom (top + 1) set
+
 -- that set has no one of a pair
 abbrev pub NoPair : List ℕ → ℕ → ℕ → ℕ → List ℕ → Type 0
 NoPair marks z a m member = (y : ℕ) → PairIn marks z (setWith a m member) y → ⊥
+
+-- a set for a move, of numbers below `end`
+pub record FewBelow (end : ℕ) (set : List ℕ) : Type 0 where
+  pub small : Few set
+  pub inside : end ≤ parities
+  pub none : NoneFrom end set
 
 -- the cells of a move with z and the marked numbers
 abbrev pub listedCells : ℕ → List ℕ → List ℕ

@@ -1,12 +1,12 @@
 // From a mask of slots to the cells of a move: the members that it names and the one whose column came down to 0, in ascending order.
 ghost use mathlib.Core.Path.{_≡_};
 ghost use Prim.Native.Nat.{_<_};
-ghost use lib.ListN.{length};
+ghost use lib.ListN.{length, replicate};
 ghost use Rattle.circuit.specs.Limits.{moveCells, parities, tableBytes};
 ghost use Rattle.echelon.specs.Slots.{SlotMembers};
 ghost use Rattle.moves.specs.Tests.{Decides};
 ghost use Rattle.moves.specs.Pair.{PairIn, mended};
-ghost use Rattle.kernel.specs.Naming.{Few, PairAt, SetNamed, WritesMove, listedCells, totalWith};
+ghost use Rattle.kernel.specs.Naming.{FewBelow, NamesSet, PairAt, SetNamed, WritesMove, listedCells};
 use circuit::cells::cell_at;
 use circuit::cells::put_cell;
 use circuit::copying::copy_parities;
@@ -18,6 +18,7 @@ use circuit::limits::PRODUCT_BITS;
 use circuit::limits::Parity;
 use circuit::limits::TABLE_BYTES;
 use circuit::parity::index_of;
+use echelon::next_slot;
 use moves::Sought;
 use moves::marks::flip_mark;
 use moves::marks::mark_at;
@@ -35,51 +36,47 @@ pub fn write_move(
     requires { ⌜ SlotMembers (now member) × (length (now cells) ≡ moveCells) ⌝ }
     ensures { λ r. ⌜ WritesMove (now (marks .entry)) z a m (now (member .entry)) (now (cells .entry)) (now (cells .exit)) r ⌝ }
 {
-    let mut set = set_named(m, a, member);
-    let y = pair_at(marks, z, a, m, member, &set);
-    if y >= TABLE_BYTES {
+    let mut set = [0 as Mark; TABLE_BYTES];
+    let named = name_set(m, a, member, &mut set);
+    let at = pair_at(marks, z, a, m, member, &set);
+    if at >= TABLE_BYTES {
         return Sought::Nothing;
     }
-    mend(total_named(m, a, member), z, y as Parity, &mut set);
-    let listed = list(z, &set);
+    let y = at as Parity;
+    mend(named.total, z, y, &mut set);
+    // the partner of y may have come in
+    let end = index_of(named.top | (y ^ z)) + 1;
+    let listed = list(z, end, &set);
     copy_parities(&listed, cells);
     Sought::Found
 }
 
-// The marks of the members of the slots in the mask, and of a. Each mark is flipped, so it is of no matter whether members differ.
-fn set_named(m: u64, a: Parity, member: &[Parity; PRODUCT_BITS]) -> [Mark; TABLE_BYTES]
-    requires { ⌜ SlotMembers (now member) × (a < parities) ⌝ }
-    ensures { λ r. ⌜ SetNamed a m (now (member .entry)) r ⌝ }
-{
-    let mut set = [0 as Mark; TABLE_BYTES];
-    let mut s: usize = 0;
-    while s < PRODUCT_BITS {
-        let k = s;
-        s += 1;
-        if (m >> k) % 2 == 1 {
-            let y = cell_at(member, k);
-            flip_mark(&mut set, y);
-        }
-    }
-    flip_mark(&mut set, a);
-    set
+// What is known of a set beside its marks: the xor of its numbers, which is 0 or z; and `top`, their or, which none of them is above.
+struct Named {
+    total: Parity,
+    top: Parity,
 }
 
-// Their xor: 0, or z.
-fn total_named(m: u64, a: Parity, member: &[Parity; PRODUCT_BITS]) -> Parity
-    requires { ⌜ SlotMembers (now member) ⌝ }
-    ensures { λ r. ⌜ r ≡ totalWith a m (now (member .entry)) ⌝ }
+// Marks the members of the slots in the mask, and a. Each mark is flipped, so it is of no matter whether members differ.
+fn name_set(m: u64, a: Parity, member: &[Parity; PRODUCT_BITS], set: &mut [Mark]) -> Named
+    requires { ⌜ SlotMembers (now member) × (a < parities) × (now set ≡ replicate tableBytes 0) ⌝ }
+    ensures { λ r. ⌜ NamesSet a m (now (member .entry)) (now (set .exit)) (r .total) (r .top) ⌝ }
 {
-    let mut x: Parity = 0;
-    let mut s: usize = 0;
+    let mut total: Parity = 0;
+    let mut top = a;
+    let mut s = next_slot(m, 0);
     while s < PRODUCT_BITS {
-        let k = s;
-        s += 1;
-        if (m >> k) % 2 == 1 {
-            x = x ^ cell_at(member, k);
-        }
+        let y = cell_at(member, s);
+        flip_mark(set, y);
+        total = total ^ y;
+        top = top | y;
+        s = next_slot(m, s + 1);
     }
-    x ^ a
+    flip_mark(set, a);
+    Named {
+        total: total ^ a,
+        top: top,
+    }
 }
 
 // Some y of the set that is one of a pair: a, or a member of a slot in the mask. Where there is none, the number of parities.
@@ -98,16 +95,13 @@ fn pair_at(
     if is_pair(marks, z, set, a) {
         return index_of(a);
     }
-    let mut s: usize = 0;
+    let mut s = next_slot(m, 0);
     while s < PRODUCT_BITS {
-        let k = s;
-        s += 1;
-        if (m >> k) % 2 == 1 {
-            let y = cell_at(member, k);
-            if is_pair(marks, z, set, y) {
-                return index_of(y);
-            }
+        let y = cell_at(member, s);
+        if is_pair(marks, z, set, y) {
+            return index_of(y);
         }
+        s = next_slot(m, s + 1);
     }
     TABLE_BYTES
 }
@@ -135,15 +129,15 @@ fn mend(total: Parity, z: Parity, y: Parity, set: &mut [Mark])
     flip_mark(set, y ^ z);
 }
 
-// z, the number in the set, the set in ascending order, zeros.
-fn list(z: Parity, set: &[Mark]) -> [MoveCell; MOVE_CELLS]
-    requires { ⌜ Few (now set) ⌝ }
+// z, the number in the set, the set in ascending order, zeros. All numbers of the set are below `end`.
+fn list(z: Parity, end: usize, set: &[Mark]) -> [MoveCell; MOVE_CELLS]
+    requires { ⌜ FewBelow end (now set) ⌝ }
     ensures { λ r. ⌜ r ≡ listedCells z (now (set .entry)) ⌝ }
 {
     let mut cells = [0 as MoveCell; MOVE_CELLS];
     put_cell(&mut cells, 0, z);
     let mut p: usize = 0;
-    while p < set.len() {
+    while p < end {
         let y = p;
         p += 1;
         if set[y] == 1 {

@@ -8,6 +8,7 @@ use native.Mathlib.Numerals.{add-one}
 use native.Mathlib.Omega.{arith}
 use lib.ListN.{getD, length}
 use Rattle.gf2.proofs.Over.{length-sumOver, sumOver-append, sumOver-cons, sumOver-nil}
+use Rattle.gf2.proofs.Steady.{steady}
 use Rattle.gf2.proofs.Sum.{delta-other, delta-same, sum-add, sum-append, sum-ext, sum-single, sum-suc, sum-zero}
 use Rattle.gf2.specs.Over.{Below, sumOver}
 use Rattle.gf2.specs.Sum.{delta, sum}
@@ -142,6 +143,10 @@ listed-on k f e = rw (add-one k) (ap (λ (b : ℕ). listed k f ++ only b k) e)
 pub listed-off : (k : ℕ) (f : ℕ → ℕ) → f k ≡ 0 → listed (k + 1) f ≡ listed k f
 unfolding listed only
 listed-off k f e = rw (add-one k) (ap (λ (b : ℕ). listed k f ++ only b k) e ∙ append-nil (listed k f))
+
+-- f marks nothing from k on
+pub listed-end : (k n : ℕ) (f : ℕ → ℕ) → k ≤ n → ((p : ℕ) → k ≤ p → f p ≡ 0) → listed n f ≡ listed k f
+listed-end k n f l none = steady (λ (m : ℕ). listed m f) k n l (λ j g i e. listed-off j f (none j g) ∙ e)
 
 pub listed-none : (k : ℕ) → listed k (λ p. 0) ≡ []
 unfolding listed only

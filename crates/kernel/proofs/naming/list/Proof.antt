@@ -7,23 +7,23 @@ use borrow.Author.Needs.{needs}
 use denote.Ref.{now}
 use Rattle.circuit.proofs.Filling.{put-long}
 use Rattle.circuit.specs.Limits.{maxMembers, moveCells, parities}
-use Rattle.kernel.proofs.SetsNamed.{ListedTo, list-none, list-off, list-on, list-room}
+use Rattle.kernel.proofs.SetsNamed.{ListedTo, list-end, list-none, list-off, list-on, list-room}
 use Rattle.kernel.proofs.naming.list.Statement.{statement}
 use Rattle.kernel.proofs.naming.list.Tie as tie
 
 abbrev Inv-loop : tie.InvT-loop
-Inv-loop z set cells₀ p₀ cells p = (p ≤ length set) × (length cells ≡ moveCells) × ListedTo z set p cells
+Inv-loop z end set cells₀ p₀ cells p = ListedTo z set p cells × (length cells ≡ moveCells) × (p ≤ end)
 
 abbrev μ-loop : tie.MeasureT-loop
-μ-loop z set cells₀ p₀ cells p = length set - p
+μ-loop z end set cells₀ p₀ cells p = end - p
 
 loop-holds : tie.Need-loop-holds Inv-loop μ-loop
 loop-holds c =
     let first : tie.After-put-cell Inv-loop μ-loop = search in
     let s : tie.Start Inv-loop μ-loop = search in (
-      search needs,
-      put-long (replicate moveCells 0) _ 0 _ (first .put-cell .ensures),
       list-none (s .args .z) (λ y. getD (now (s .args .set)) y 0) _ (first .put-cell .ensures),
+      put-long (replicate moveCells 0) _ 0 _ (first .put-cell .ensures),
+      search needs,
     )
 
 -- a turn at a number that is marked
@@ -35,12 +35,12 @@ head m = search
 
 -- it is a parity, and the set so far is not full
 inside : (m : Marked) → head m .loop .p < parities
-inside m = let s : tie.Start Inv-loop μ-loop = search in omega (arith, s .pre .long)
+inside m = let s : tie.Start Inv-loop μ-loop = search in omega (arith, s .pre .inside)
 
 room : (m : Marked) → getD (head m .loop .cells) 1 0 < maxMembers
 room m =
     let s : tie.Start Inv-loop μ-loop = search in
-    list-room (s .args .z) (now (s .args .set)) (s .pre) (head m .loop .p) (inside m) (head m .loop .cells) (head m .loop .inv .2)
+    list-room (s .args .z) (now (s .args .set)) (s .pre .small) (head m .loop .p) (inside m) (head m .loop .cells) (head m .loop .inv .0)
     (m .if1 .taken)
 
 -- the number in the set so far
@@ -72,28 +72,28 @@ loop-again c =
     let k : tie.After-cell-at Inv-loop μ-loop = search in
     let m : Marked = search in
     let s : tie.Start Inv-loop μ-loop = search in (
+      list-on (s .args .z) (now (s .args .set)) (s .pre .small) (head m .loop .p) (inside m) (head m .loop .cells) (head m .loop .inv .0)
+          _ _ _ (m .if1 .taken) (k .cell-at .ensures) (last .put-cell2 .ensures) (count .put-cell3 .ensures),
       search needs,
       search needs,
-      list-on (s .args .z) (now (s .args .set)) (s .pre) (head m .loop .p) (inside m) (head m .loop .cells) (head m .loop .inv .2) _ _ _
-          (m .if1 .taken) (k .cell-at .ensures) (last .put-cell2 .ensures) (count .put-cell3 .ensures),
     )
 
 loop-again-2 : tie.Need-loop-again-2 Inv-loop μ-loop
 loop-again-2 c =
     let at : tie.At-loop Inv-loop μ-loop = search in
     let s : tie.Start Inv-loop μ-loop = search in (
+      list-off (s .args .z) (now (s .args .set)) (s .pre .small) (at .loop .p) (omega (arith, s .pre .inside)) (at .loop .cells)
+          (at .loop .inv .0) (c .if1 .left),
       search needs,
       search needs,
-      list-off (s .args .z) (now (s .args .set)) (s .pre) (at .loop .p) (omega (arith, s .pre .long)) (at .loop .cells) (at .loop .inv .2)
-          (c .if1 .left),
     )
 
 returns : tie.Need-returns Inv-loop μ-loop
 returns c =
     let at : tie.At-loop Inv-loop μ-loop = search in
     let s : tie.Start Inv-loop μ-loop = search in
-    let e : at .loop .p ≡ parities = omega (arith, s .pre .long) in
-    rw e at (at .loop .inv .2)
+    let e : at .loop .p ≡ s .args .end = omega arith in
+    list-end (s .args .z) (now (s .args .set)) (at .loop .cells) (s .pre) (rw e at (at .loop .inv .0))
 
 pub list-spec : {M : Type 1} → statement M
 list-spec =

@@ -1,16 +1,16 @@
 -- Neither a nor the member of a slot passed so far is one of a pair.
-use Prim.Native.Nat.{_-_, _<_, _≤_}
+use Prim.Native.Nat.{_-_, _<_}
 use native.Mathlib.Omega.{arith}
 use borrow.Author.Needs.{needs}
 use denote.Ref.{now}
 use Rattle.circuit.specs.Limits.{parities, productBits}
 use Rattle.moves.specs.Pair.{PairIn}
-use Rattle.kernel.proofs.SetsNamed.{NoneTo, none-lone, none-unnamed, pair-found, pair-none}
+use Rattle.kernel.proofs.SetsNamed.{NoneTo, member-fits, none-lone, none-next, pair-found, pair-none}
 use Rattle.kernel.proofs.naming.pair_at.Statement.{statement}
 use Rattle.kernel.proofs.naming.pair_at.Tie as tie
 
 abbrev Inv-loop : tie.InvT-loop
-Inv-loop marks z a m member set s₀ s = (s ≤ productBits) × (PairIn marks z set a → ⊥) × NoneTo marks z set m member s
+Inv-loop marks z a m member set s₀ s = (PairIn marks z set a → ⊥) × NoneTo marks z set m member s
 
 abbrev μ-loop : tie.MeasureT-loop
 μ-loop marks z a m member set s₀ s = productBits - s
@@ -34,8 +34,14 @@ returns c =
 
 loop-holds : tie.Need-loop-holds Inv-loop μ-loop
 loop-holds c =
+    let first : tie.After-next-slot Inv-loop μ-loop = search in
+    let lone : tie.Else1 Inv-loop μ-loop = search in
     let p : tie.After-is-pair Inv-loop μ-loop = search in
-    (search needs, p .is-pair .ensures .1 (c .if1 .left), λ j l. absurd (omega arith))
+    let s : Entry = search in
+    let a = s .args in (
+      p .is-pair .ensures .1 (lone .if1 .left),
+      none-next (now (a .marks)) (now (a .set)) (a .z) (a .m) (now (a .member)) (λ j l. absurd (omega arith)) (first .next-slot .ensures),
+    )
 
 cell-at-requires : tie.Need-cell-at-requires Inv-loop μ-loop
 cell-at-requires c κs = let s : Entry = search in omega (arith, s .pre .1 .0 .long)
@@ -46,10 +52,7 @@ entry at = search
 
 -- the member of the slot is a parity
 below : (y : tie.After-cell-at Inv-loop μ-loop) → y .cell-at .result < parities
-below y =
-    let at : Head = search in
-    let s : Entry = search in
-    omega (arith, y .cell-at .ensures, s .pre .1 .0 .below (at .loop .s) (omega (arith, s .pre .1 .0 .long)))
+below y = let s : Entry = search in member-fits (s .pre .1 .0) (omega arith) (y .cell-at .ensures)
 
 is-pair-requires-2 : tie.Need-is-pair-requires-2 Inv-loop μ-loop
 is-pair-requires-2 c κs = let s : Entry = search in (s .pre .0 .0, s .pre .1 .1 .small .long, s .pre .0 .1, below (search))
@@ -60,41 +63,31 @@ index-of-requires-2 c κs = below (search)
 returns-2 : tie.Need-returns-2 Inv-loop μ-loop
 returns-2 c =
     let i : tie.After-index-of2 Inv-loop μ-loop = search in
-    let yes-pair : tie.Then3 Inv-loop μ-loop = search in
+    let yes-pair : tie.Then2 Inv-loop μ-loop = search in
     let p : tie.After-is-pair2 Inv-loop μ-loop = search in
     let at : Head = search in
     let s = entry at in
     rw (i .index-of2 .ensures .0)
-    (pair-found (s .pre .1 .1 .small .long) (below (search)) (p .is-pair2 .ensures .0 (yes-pair .if3 .taken)))
+    (pair-found (s .pre .1 .1 .small .long) (below (search)) (p .is-pair2 .ensures .0 (yes-pair .if2 .taken)))
 
 loop-again : tie.Need-loop-again Inv-loop μ-loop
 loop-again c =
+    let next : tie.After-next-slot2 Inv-loop μ-loop = search in
+    let lone : tie.Else2 Inv-loop μ-loop = search in
     let p : tie.After-is-pair2 Inv-loop μ-loop = search in
     let y : tie.After-cell-at Inv-loop μ-loop = search in
     let at : Head = search in
     let s : Entry = search in
-    let a = s .args in (
-      search needs,
-      at .loop .inv .1,
-      none-lone (now (a .marks)) (now (a .set)) (a .z) (a .m) (now (a .member)) (at .loop .inv .2) (y .cell-at .ensures)
-          (p .is-pair2 .ensures .1 (c .if3 .left)),
-    )
-
-loop-again-2 : tie.Need-loop-again-2 Inv-loop μ-loop
-loop-again-2 c =
-    let at : Head = search in
-    let s : Entry = search in
-    let a = s .args in (
-      search needs,
-      at .loop .inv .1,
-      none-unnamed (now (a .marks)) (now (a .set)) (a .z) (a .m) (now (a .member)) (at .loop .inv .2) (c .if2 .left),
-    )
+    let a = s .args in
+    let passed = none-lone (now (a .marks)) (now (a .set)) (a .z) (a .m) (now (a .member)) (at .loop .inv .1) (y .cell-at .ensures)
+    (p .is-pair2 .ensures .1 (lone .if2 .left)) in
+    (at .loop .inv .0, none-next (now (a .marks)) (now (a .set)) (a .z) (a .m) (now (a .member)) passed (next .next-slot2 .ensures))
 
 returns-3 : tie.Need-returns-3 Inv-loop μ-loop
 returns-3 c =
     let at : Head = search in
     let s : Entry = search in
-    pair-none (now (s .args .marks)) (s .args .z) (s .pre .1 .1) (at .loop .inv .1) (at .loop .inv .2) (omega arith)
+    pair-none (now (s .args .marks)) (s .args .z) (s .pre .1 .1) (at .loop .inv .0) (at .loop .inv .1) (omega arith)
 
 pub pair-at-spec : {M : Type 1} → statement M
 pair-at-spec =
@@ -105,15 +98,14 @@ pair-at-spec =
     is-pair-requires
     (λ c κs. search needs)
     returns
+    (λ c κs. search needs)
     loop-holds
-    (λ c. search needs)
-    (λ c. search needs)
     cell-at-requires
     is-pair-requires-2
     index-of-requires-2
     returns-2
     (λ c. search needs)
-    loop-again
+    (λ c κs. search needs)
     (λ c. search needs)
-    loop-again-2
+    loop-again
     returns-3)

@@ -2,50 +2,62 @@
 use mathlib.Core.Path.{_∙_, refl}
 use native.Mathlib.Omega.{arith}
 use borrow.Author.Needs.{needs}
-use Rattle.kernel.proofs.SetsNamed.{mended-set, move-none, move-of}
+use Rattle.kernel.proofs.SetsNamed.{end-fits, mended-set, move-none, move-of}
 use Rattle.kernel.proofs.naming.write_move.Statement.{statement}
 use Rattle.kernel.proofs.naming.write_move.Tie as tie
 
 returns : tie.Need-returns
 returns c =
     let p : tie.After-pair-at = search in
-    let w : tie.After-set-named = search in
-    (refl, move-none (w .set-named .ensures) (p .pair-at .ensures) (c .if1 .taken))
+    let w : tie.After-name-set = search in
+    (refl, move-none (w .name-set .ensures .named) (p .pair-at .ensures) (c .if1 .taken))
 
 list-requires : tie.Need-list-requires
 list-requires c κs =
+    let i : tie.After-index-of = search in
     let mended : tie.After-mend = search in
-    let x : tie.After-total-named = search in
     let some : tie.Else1 = search in
     let p : tie.After-pair-at = search in
-    let w : tie.After-set-named = search in
+    let w : tie.After-name-set = search in
     let s : tie.Start = search in
-    mended-set (w .set-named .ensures) (p .pair-at .ensures) (omega arith) (x .total-named .result) (s .pre .0 .1) (mended .mend .ensures)
+    let n = w .name-set .ensures in
+    mended-set (n .named) (p .pair-at .ensures) (omega arith) (s .pre .0 .1) n (i .index-of .ensures .0) (mended .mend .ensures)
+
+index-of-requires : tie.Need-index-of-requires
+index-of-requires c κs =
+    let some : tie.Else1 = search in
+    let p : tie.After-pair-at = search in
+    let w : tie.After-name-set = search in
+    let s : tie.Start = search in
+    let n = w .name-set .ensures in
+    end-fits (n .named) (p .pair-at .ensures) (omega arith) (w .name-set .result .top) (s .pre .0 .1) (n .fits)
 
 returns-2 : tie.Need-returns-2
 returns-2 c =
     let copied : tie.After-copy-parities = search in
     let l : tie.After-list = search in
     let mended : tie.After-mend = search in
-    let x : tie.After-total-named = search in
     let some : tie.Else1 = search in
     let p : tie.After-pair-at = search in
-    let w : tie.After-set-named = search in
-    move-of (w .set-named .ensures) (p .pair-at .ensures) (omega arith) (x .total-named .ensures) (mended .mend .ensures)
+    let w : tie.After-name-set = search in
+    let n = w .name-set .ensures in
+    move-of (n .named) (p .pair-at .ensures) (omega arith) (n .total-is) (mended .mend .ensures)
     (copied .copy-parities .ensures ∙ l .list .ensures)
 
 pub write-move-spec : {M : Type 1} → statement M
 write-move-spec =
     tie.close
     (tie.spec
+    (λ c. search needs)
     (λ c κs. search needs)
     (λ c. search needs)
     (λ c κs. search needs)
     returns
-    (λ c κs. search needs)
     (λ c. search needs)
     (λ c. search needs)
     (λ c κs. search needs)
+    index-of-requires
+    (λ c. search needs)
     (λ c. search needs)
     list-requires
     (λ c. search needs)
