@@ -2,19 +2,18 @@
 use mathlib.Core.List.{List}
 use mathlib.Core.Logic.{_≢_}
 use mathlib.Core.Path.{_∙_, _≡_, ap, refl, sym}
-use Prim.Native.Nat.{_+_, _-_, _/_, _<_, _^_, _≤_, suc, ℕ}
+use Prim.Native.Nat.{_+_, _-_, _<_, _^_, _≤_, suc, ℕ}
 use native.Mathlib.Decide.{decLt, ℕ-discrete}
 use native.Mathlib.Nat.{le-refl}
 use native.Mathlib.Omega.{arith}
 use lib.Bits.{bitXor}
-use lib.Count.{leading-top, leadingZeros, trailingZeros}
+use lib.Count.{leading-top, leadingZeros}
 use lib.ListN.{getD, length, length-set, set}
 use lib.Pow.{pow-mono}
 use lib.Seq.{getD-set-other, getD-set-same}
 use Rattle.circuit.specs.Limits.{parities, productBits}
 use Rattle.gf2.proofs.Basis.{by-off, by-on}
 use Rattle.gf2.proofs.Echelon.{reached-step, step-lt}
-use Rattle.gf2.proofs.Leading.{bit-counted, bit-from, bit-under}
 use Rattle.gf2.proofs.Steady.{steady}
 use Rattle.gf2.specs.Bit.{bit}
 use Rattle.gf2.specs.Echelon.{Reached, Shape, Stopped, byMembers}
@@ -83,19 +82,6 @@ opened-slots {y} {by = by} {member = member} slots l o =
           };
     })
 
--- ---- the next slot that a mask names, from the count of zeros below it in a word of w bits
-
-pub next-slot : (w m s : ℕ) → productBits ≤ w → NextSlot m s (s + trailingZeros w (m / 2 ^ s))
-next-slot w m s wide =
-    record {
-      from = omega arith;
-      passed =
-          λ j g l.
-          let e : j ≡ s + (j - s) = omega arith in
-          ap (bit m) e ∙ sym (bit-from m s (j - s)) ∙ bit-under w (m / 2 ^ s) (j - s) (omega arith);
-      named = λ l. sym (bit-from m s (trailingZeros w (m / 2 ^ s))) ∙ bit-counted w (m / 2 ^ s) (omega arith);
-    }
-
 -- ---- from slots to members: the loop over the slots
 
 -- those below k were gone through, and s is the next one that the mask names
@@ -126,7 +112,7 @@ module _ {by : List ℕ} {used m s : ℕ} (h : MaskTo by used m s) where
         next = t;
         is =
             ap (λ (x : ℕ). bitXor x (getD by s 0)) is
-            ∙ sym (by-on by used s (ap (λ (x : ℕ). bit x s) (sym is) ∙ h .next .named l));
+            ∙ sym (by-on by used s (ap (λ (x : ℕ). bit x s) (sym is) ∙ h .next .on l));
       }
 
   pub mask-end : productBits ≤ s → m ≡ byMembers by used productBits

@@ -5,7 +5,7 @@ use mathlib.Core.Path.{_≡_}
 use Prim.Native.Nat.{_<_, _^_, _≤_, suc, ℕ}
 use lib.ListN.{getD, length, set}
 use Rattle.circuit.specs.Limits.{parities, productBits}
-use Rattle.gf2.specs.Bit.{bit}
+use Rattle.gf2.specs.Bit.{NextBit, bit}
 use Rattle.gf2.specs.Echelon.{AllHold, Reached, Shape, Stopped, held}
 use Rattle.gf2.specs.Over.{Below}
 use Rattle.echelon.specs.declared.Inserted.{Inserted}
@@ -64,10 +64,8 @@ pub record Grows (v filled : ℕ) (vec vec′ : List ℕ) (r : ℕ) : Type 0 whe
   pub kept : (g : ℕ) → ((s : ℕ) → bit g s ≡ 1 → bit filled s ≡ 1) → held g vec′ ≡ held g vec
 
 -- r is the first slot from s on that m names; where there is none, it is no slot
-pub record NextSlot (m s r : ℕ) : Type 0 where
-  pub from : s ≤ r
-  pub passed : (j : ℕ) → s ≤ j → j < r → bit m j ≡ 0
-  pub named : r < productBits → bit m r ≡ 1
+abbrev pub NextSlot : ℕ → ℕ → ℕ → Type 0
+NextSlot m s r = NextBit productBits m s r
 
 -- nothing changed
 pub record Same (vec by member vec′ by′ member′ : List ℕ) : Type 0 where

@@ -10,7 +10,7 @@ use lib.Bits.{bitXor, xor-block, xor-lt}
 use lib.Count.{trailingZeros, under}
 use lib.Pow.{pow-mono, shr-shr}
 use Rattle.gf2.proofs.Bit.{bit-high, bit-suc, bit-xor, bit-zero}
-use Rattle.gf2.specs.Bit.{bit}
+use Rattle.gf2.specs.Bit.{NextBit, bit}
 
 -- the top bit of a number below 2 ^ (k + 1)
 pub bit-top : (k a : ℕ) → 2 ^ k ≤ a → a < 2 ^ suc k → bit a k ≡ 1
@@ -97,3 +97,15 @@ bit-under (suc k) p i l = go (p % 2) refl i l (bit-under k (p / 2))
 pub bit-from : (p s i : ℕ) → bit (p / 2 ^ s) i ≡ bit p (s + i)
 unfolding bit
 bit-from p s i = ap (λ (x : ℕ). x % 2) (shr-shr p s i)
+
+-- the next bit that is set, by the count of the zeros before it in a word of w bits
+pub next-bit : (N w m s : ℕ) → N ≤ w → NextBit N m s (s + trailingZeros w (m / 2 ^ s))
+next-bit N w m s wide =
+    record {
+      from = omega arith;
+      passed =
+          λ j g l.
+          let e : j ≡ s + (j - s) = omega arith in
+          ap (bit m) e ∙ sym (bit-from m s (j - s)) ∙ bit-under w (m / 2 ^ s) (j - s) (omega arith);
+      on = λ l. sym (bit-from m s (trailingZeros w (m / 2 ^ s))) ∙ bit-counted w (m / 2 ^ s) (omega arith);
+    }

@@ -143,7 +143,7 @@ module _ {a m : ℕ} {member : List ℕ} {s : ℕ} {marks : List ℕ} {x top : �
     pub naming-turn : {y s′ : ℕ} {marks′ : List ℕ} → s < productBits → y ≡ getD member s 0 → marks′ ≡ flip marks y → NextSlot m (s + 1) s′
         → NamedTo a m member s′ marks′ (bitXor x y) (bitOr top y)
     naming-turn {y} {s′} {marks′} l of t next =
-        let on : bit m s ≡ 1 = h .next .named l in
+        let on : bit m s ≡ 1 = h .next .on l in
         record {
           k = s + 1;
           inside = omega arith;

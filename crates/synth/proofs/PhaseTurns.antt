@@ -1,27 +1,26 @@
 -- Writing the weights: one turn, and the end, of each loop of the code, and each way out of a match, over plain numbers and lists.
-use mathlib.Core.List.{_++_, List, [], _∷_, map}
+use mathlib.Core.List.{_++_, List, [], _∷_, append-nil, map}
 use mathlib.Core.Logic.{_≢_}
 use mathlib.Core.Path.{_∙_, _≡_, ap, refl, subst, sym}
-use Prim.Native.Nat.{_%_, _+_, _/_, _<_, _^_, suc, zero, ℕ, _≤_}
+use Prim.Native.Nat.{_+_, _<_, _^_, suc, zero, ℕ, _≤_}
 use native.Mathlib.Decide.{ℕ-discrete}
 use native.Mathlib.Nat.{le-refl}
 use native.Mathlib.Numerals.{add-one}
 use native.Mathlib.Omega.{arith}
 use lib.Bits.{bitXor}
-use lib.Dec.{eqb}
 use lib.ListN.{length, length-append}
 use lib.Pow.{pow-mono}
-use Rattle.circuit.specs.Gate.{Gate, gate}
+use Rattle.circuit.specs.Gate.{CNOT, Gate, gate}
 use Rattle.circuit.specs.Limits.{maxWires, parities}
 use Rattle.circuit.specs.Sound.{weight}
-use Rattle.gf2.specs.Bit.{bit}
+use Rattle.gf2.proofs.Steady.{steady}
+use Rattle.gf2.specs.Bit.{NextBit, bit}
 use Rattle.gf2.specs.Parity.{lowest}
 use Rattle.synth.proofs.AllParities.{phases-grow}
-use Rattle.synth.proofs.BitTests.{bit-told}
 use Rattle.synth.proofs.Stores.{room-first, room-then, stored-none, stored-then}
 use Rattle.synth.specs.Spelling.{spell, spelling}
 use Rattle.synth.specs.Storing.{ParityReady, PhasesReady, Room, Stored, kindsOf}
-use Rattle.synth.specs.Writing.{around, bitOf, cnotIf, cnots, others, writeParity, writePhases}
+use Rattle.synth.specs.Writing.{around, cnotIf, cnots, others, writeParity, writePhases}
 use Rattle.synth.specs.declared.spelling.Kinds.{Kinds}
 use Rattle.synth.specs.declared.spelling.Kinds.the-variants.{Nothing, One, Two}
 
@@ -37,27 +36,42 @@ cnots-grow q t i (suc n) l = go (ℕ-discrete i (suc n)) (λ h. cnots-grow q t i
     go (yes e) f = rw e (le-refl _)
     go (no e) f = omega (arith, f (omega arith), length-append (cnots n q t) (cnotIf (bit q n) n t))
 
--- a CNOT from wire i, by the code's test of its bit
-abbrev pub tested : ℕ → ℕ → ℕ → List Gate
-tested q t i = cnotIf (bitOf (eqb (q / 2 ^ i % 2) 1)) i t
+-- those from the wires below k are stored, and i is the next wire that q names
+pub record CnotsTo (n q t : ℕ) (g g′ : List ℕ) (j j′ i : ℕ) : Type 0 where
+  pub k : ℕ
+  pub inside : k ≤ n
+  pub next : NextBit maxWires q k i
+  pub stored : Stored g g′ j j′ (cnots k q t)
 
-module _ {g g′ : List ℕ} {k j : ℕ} (q t i : ℕ) (s : Stored g g′ k j (cnots i q t)) where
-  next : cnots (i + 1) q t ≡ cnots i q t ++ tested q t i
-  unfolding cnots
-  next = rw (add-one i, bit-told q i)
-
-  pub cnots-room : (n : ℕ) → i < n → Room g k (cnots n q t) → Room g′ j (tested q t i)
-  cnots-room n l r = room-then s (tested q t i) (rw next at fits)
-    where
-      fits : Room g k (cnots (i + 1) q t)
-      fits = omega (arith, cnots-grow q t (i + 1) n (omega arith))
-
-  pub cnots-turn : {g″ : List ℕ} {j′ : ℕ} → Stored g′ g″ j j′ (tested q t i) → Stored g g″ k j′ (cnots (i + 1) q t)
-  cnots-turn u = rw next (stored-then s u)
-
-pub cnots-first : (g : List ℕ) (k q t : ℕ) → Stored g g k k (cnots 0 q t)
+pub cnots-first : (n q t : ℕ) (g : List ℕ) (j : ℕ) {i : ℕ} → NextBit maxWires q 0 i → CnotsTo n q t g g j j i
 unfolding cnots
-cnots-first g k q t = stored-none g k
+cnots-first n q t g j h = record { k = 0; inside = omega arith; next = h; stored = stored-none g j }
+
+module _ {n q t : ℕ} {g g′ : List ℕ} {j j′ i : ℕ} (h : CnotsTo n q t g g′ j j′ i) where
+  -- the wires between have none
+  cnots-at : (m : ℕ) → h .k ≤ m → m ≤ i → cnots m q t ≡ cnots (h .k) q t
+  unfolding cnots cnotIf
+  cnots-at m f l =
+      steady (λ m. cnots m q t) (h .k) m f
+      (λ m a b e. rw (add-one m, h .next .passed m a (omega arith)) (append-nil (cnots m q t) ∙ e))
+
+  pub cnots-end : n ≤ i → Stored g g′ j j′ (cnots n q t)
+  cnots-end l = rw (cnots-at n (h .inside) l) (h .stored)
+
+  module _ (few : n ≤ maxWires) (l : i < n) where
+    one-more : cnots (i + 1) q t ≡ cnots (h .k) q t ++ (gate CNOT i t ∷ [])
+    unfolding cnots cnotIf
+    one-more = rw (add-one i, h .next .on (omega arith), cnots-at i (h .next .from) (le-refl i))
+
+    pub cnots-room : Room g j (cnots n q t) → Room g′ j′ (gate CNOT i t ∷ [])
+    cnots-room r = room-then (h .stored) (gate CNOT i t ∷ []) (rw one-more at fits)
+      where
+        fits : Room g j (cnots (i + 1) q t)
+        fits = omega (arith, cnots-grow q t (i + 1) n (omega arith))
+
+    pub cnots-turn : {g″ : List ℕ} {j″ i′ : ℕ} → Stored g′ g″ j′ j″ (gate CNOT i t ∷ []) → NextBit maxWires q (i + 1) i′
+        → CnotsTo n q t g g″ j j″ i′
+    cnots-turn u f = record { k = i + 1; inside = omega arith; next = f; stored = rw one-more (stored-then (h .stored) u) }
 
 -- ---- the spelling
 

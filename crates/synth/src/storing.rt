@@ -5,10 +5,11 @@ ghost use Prim.Native.Nat.{_≤_};
 ghost use Rattle.circuit.specs.Gate.{gate};
 ghost use Rattle.circuit.specs.Limits.{maxWires};
 ghost use Rattle.synth.specs.Storing.{Room, Stored};
-ghost use Rattle.synth.specs.Writing.{bitOf, cnotIf, cnots};
+ghost use Rattle.synth.specs.Writing.{cnots};
 use circuit::gates::CNOT;
 use circuit::limits::GATE_BYTES;
 use circuit::limits::Parity;
+use circuit::parity::next_wire;
 
 // One gate.
 pub fn push(gates: &mut [u8], k: usize, kind: u8, a: u8, b: u8) -> usize
@@ -28,16 +29,10 @@ pub fn push_cnots(gates: &mut [u8], k: usize, n: usize, q: Parity, t: u8) -> usi
     ensures { λ r. ⌜ Stored (now (gates .entry)) (now (gates .exit)) k r (cnots n q t) ⌝ }
 {
     let mut j = k;
-    for i in 0..n {
-        j = cnot_if(gates, j, (q >> i) % 2 == 1, i as u8, t);
+    let mut i = next_wire(q, 0);
+    while i < n {
+        j = push(gates, j, CNOT, i as u8, t);
+        i = next_wire(q, i + 1);
     }
     j
-}
-
-// A CNOT from wire i into wire t, if the bit is set.
-fn cnot_if(gates: &mut [u8], k: usize, c: bool, i: u8, t: u8) -> usize
-    requires { ⌜ Room (now gates) k (cnotIf (bitOf c) i t) ⌝ }
-    ensures { λ r. ⌜ Stored (now (gates .entry)) (now (gates .exit)) k r (cnotIf (bitOf c) i t) ⌝ }
-{
-    if c { push(gates, k, CNOT, i, t) } else { k }
 }

@@ -1,45 +1,51 @@
--- The CNOTs from the wires below i are stored.
-use mathlib.Core.Path.{_≡_}
-use Prim.Native.Nat.{_-_, _≤_}
+-- The CNOTs from the wires passed are stored, and i is the next wire that q names.
+use Prim.Native.Nat.{_-_}
 use native.Mathlib.Omega.{arith}
 use borrow.Author.Needs.{needs}
-use Rattle.synth.proofs.PhaseTurns.{cnots-first, cnots-room, cnots-turn}
+use denote.Ref.{now}
+use Rattle.synth.proofs.PhaseTurns.{CnotsTo, cnots-end, cnots-first, cnots-room, cnots-turn}
 use Rattle.synth.proofs.Stores.{stored-same}
-use Rattle.synth.specs.Storing.{Stored}
-use Rattle.synth.specs.Writing.{cnots}
 use Rattle.synth.proofs.storing.push_cnots.Statement.{statement}
 use Rattle.synth.proofs.storing.push_cnots.Tie as tie
 
 abbrev Inv-loop : tie.InvT-loop
-Inv-loop gates₀ k n q t j₀ i₀ gates j i = (i ≤ n) × Stored gates₀ gates j₀ j (cnots i q t)
+Inv-loop gates₀ k n q t j₀ i₀ gates j i = CnotsTo n q t gates₀ gates j₀ j i
 
 abbrev μ-loop : tie.MeasureT-loop
 μ-loop gates₀ k n q t j₀ i₀ gates j i = n - i
 
 loop-holds : tie.Need-loop-holds Inv-loop μ-loop
-loop-holds c = (search needs, cnots-first _ _ _ _)
+loop-holds c =
+    let first : tie.After-next-wire Inv-loop μ-loop = search in
+    let s : tie.Start Inv-loop μ-loop = search in
+    cnots-first (s .args .n) (s .args .q) (s .args .t) (now (s .args .gates)) (s .args .k) (first .next-wire .ensures)
 
-cnot-if-requires : tie.Need-cnot-if-requires Inv-loop μ-loop
-cnot-if-requires c κs =
+push-requires : tie.Need-push-requires Inv-loop μ-loop
+push-requires c κs =
     let at : tie.At-loop Inv-loop μ-loop = search in
     let s : tie.Start Inv-loop μ-loop = search in
-    cnots-room _ _ _ (at .loop .inv .1) (s .args .n) (omega arith) (s .pre .1)
+    cnots-room (at .loop .inv) (s .pre .0) (omega arith) (s .pre .1)
+
+loop-less : tie.Need-loop-less Inv-loop μ-loop
+loop-less c =
+    let next : tie.After-next-wire2 Inv-loop μ-loop = search in
+    omega (arith, next .next-wire2 .ensures .from)
 
 loop-again : tie.Need-loop-again Inv-loop μ-loop
 loop-again c =
-    let u : tie.After-cnot-if Inv-loop μ-loop = search in
+    let next : tie.After-next-wire2 Inv-loop μ-loop = search in
+    let u : tie.After-push Inv-loop μ-loop = search in
     let at : tie.At-loop Inv-loop μ-loop = search in
-    (search needs, cnots-turn _ _ _ (at .loop .inv .1) (u .cnot-if .ensures))
+    let s : tie.Start Inv-loop μ-loop = search in
+    cnots-turn (at .loop .inv) (s .pre .0) (omega arith) (u .push .ensures) (next .next-wire2 .ensures)
 
 same-length : tie.Need-same-length Inv-loop μ-loop
-same-length c = let at : tie.At-loop Inv-loop μ-loop = search in stored-same (at .loop .inv .1)
+same-length c = let at : tie.At-loop Inv-loop μ-loop = search in stored-same (at .loop .inv .stored)
 
 returns : tie.Need-returns Inv-loop μ-loop
 returns c =
     let at : tie.At-loop Inv-loop μ-loop = search in
-    let s : tie.Start Inv-loop μ-loop = search in
-    let e : at .loop .i ≡ s .args .n = omega arith in
-    rw (← e) (at .loop .inv .1)
+    cnots-end (at .loop .inv) (omega arith)
 
 pub push-cnots-spec : {M : Type 1} → statement M
 push-cnots-spec =
@@ -47,13 +53,13 @@ push-cnots-spec =
     (tie.spec
     Inv-loop
     μ-loop
+    (λ c κs. search needs)
     loop-holds
     (λ c. search needs)
+    push-requires
     (λ c. search needs)
-    (λ c. search needs)
-    cnot-if-requires
-    (λ c. search needs)
-    (λ c. search needs)
+    (λ c κs. search needs)
+    loop-less
     loop-again
     same-length
     returns)

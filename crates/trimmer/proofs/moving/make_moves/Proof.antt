@@ -62,7 +62,8 @@ mul-put-parities c =
     let some : Some = search in
     let f : Searched = search in
     let at : Head = search in
-    record { fits = omega (arith, few-moves (at .loop .inv .0) (searched-found _ _ _ _ (some .enum-told2 .given .1) (f .search-by .ensures))) }
+    let smallest = searched-found _ _ _ _ (some .enum-told2 .given .1) (f .search-by .ensures) in
+    record { fits = omega (arith, few-moves (at .loop .inv .0) smallest) }
 
 put-parities-requires : tie.Need-put-parities-requires Inv-loop μ-loop
 put-parities-requires c κs =
@@ -91,7 +92,8 @@ add-count c =
     let some : Some = search in
     let f : Searched = search in
     let at : Head = search in
-    record { fits = omega (arith, few-moves (at .loop .inv .0) (searched-found _ _ _ _ (some .enum-told2 .given .1) (f .search-by .ensures))) }
+    let smallest = searched-found _ _ _ _ (some .enum-told2 .given .1) (f .search-by .ensures) in
+    record { fits = omega (arith, few-moves (at .loop .inv .0) smallest) }
 
 loop-less : tie.Need-loop-less Inv-loop μ-loop
 loop-less c =
