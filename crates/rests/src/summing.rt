@@ -1,4 +1,4 @@
-// Superset sums in place, modulo 8: at m then stands the sum over the parities that name every wire of m. Internal.
+// Superset sums in place, modulo 8: each parity gets the sum over those that name all its wires. Internal.
 ghost use mathlib.Core.Path.{_≡_};
 ghost use Prim.Native.Nat.{_+_, _*_, _<_, _≤_, _^_};
 ghost use lib.ListN.{length};
@@ -17,7 +17,7 @@ pub fn put_sums(n: usize, s: &mut [Weight])
     }
 }
 
-// To each parity without wire i comes what stands at the same one with it. By blocks, since each half of one lies in a row.
+// To each parity without wire i comes what stands at the same one with it. In each block the half without the wire comes first.
 fn add_wire(s: &mut [Weight], i: usize)
     requires { ⌜ (i < maxWires) × InBlocks i (now s) ⌝ }
     ensures { λ _. ⌜ WireAdded i (length (now (s .entry))) (now (s .entry)) (now (s .exit)) ⌝ }
@@ -30,7 +30,7 @@ fn add_wire(s: &mut [Weight], i: usize)
     }
 }
 
-// To each of h places comes what stands h places on.
+// To the first half of a block comes the second. Each half lies in one piece, so that many bytes are added at a time.
 fn add_block(s: &mut [Weight], from: usize, h: usize)
     requires { ⌜ (from + 2 * h ≤ length (now s)) × Below 8 (now s) ⌝ }
     ensures { λ _. ⌜ Added from (from + h) h (now (s .entry)) (now (s .exit)) ⌝ }

@@ -1,5 +1,6 @@
 // The new weights (document 01, "The new weights"): the marks, with the rests of wires and of pairs added. The rests are found by the
-// superset sums of the weights less the marks: the sum for one wire is l, that for two is minus q, of the weights less that of the marks.
+// weights less the marks, summed for each parity over those that name all its wires: the sum of one wire is l, that of two is minus q,
+// modulo 8 and 4 those of the weights less those of the marks.
 ghost use mathlib.Core.Logic.{_≢_};
 ghost use mathlib.Core.Path.{_≡_};
 ghost use Prim.Native.Nat.{_%_, _+_, _*_, _<_, _≤_, _^_};
@@ -50,18 +51,19 @@ fn put_difference(w: &[Weight], u: &[Mark], out: &mut [Weight])
     }
 }
 
-// A member's 1, with the rest added.
+// The rest of each parity of n wires is added.
 fn add_rests(n: usize, s: &[Weight], out: &mut [Weight])
     requires { ⌜ SumsFit n (now s) × (length (now out) ≡ tableBytes) ⌝ }
     ensures { λ _. ⌜ RestsTo n (now (s .entry)) (2 ^ n) (now (out .entry)) (now (out .exit)) ⌝ }
 {
     let mut p: usize = 0;
     while p < s.len() {
-        out[p] = with_rest(out[p], rest_at(n, s, p));
+        out[p] = with_rest(out[p], rest_in(n, s, p));
         p += 1;
     }
 }
 
+// A member's 1, or 0, with the rest added.
 fn with_rest(x: Weight, rest: u32) -> Weight
     requires { ⌜ rest ≤ mostRest ⌝ }
     ensures { λ r. ⌜ r ≡ (x + rest) % 8 ⌝ }
@@ -70,7 +72,7 @@ fn with_rest(x: Weight, rest: u32) -> Weight
 }
 
 // The rest on p: one wire, two, or more.
-fn rest_at(n: usize, s: &[Weight], p: usize) -> u32
+fn rest_in(n: usize, s: &[Weight], p: usize) -> u32
     requires { ⌜ SumsFit n (now s) × (p < 2 ^ n) ⌝ }
     ensures { λ r. ⌜ (r ≡ restBy n (now (s .entry)) p) × (r ≤ mostRest) ⌝ }
 {
@@ -116,7 +118,7 @@ fn pair_with(s: &[Weight], p: usize, q: usize) -> u32
     pair_rest(s[p + q])
 }
 
-// By the sum for two wires: 6 where q of weights and marks differs by 2, 0 where it is the same.
+// By the sum of two wires: 6 where q of weights and marks differs by 2, 0 where it is the same.
 fn pair_rest(x: Weight) -> u32
     ensures { λ r. ⌜ (r ≡ pairBy x) × (r ≤ mostRest) ⌝ }
 {

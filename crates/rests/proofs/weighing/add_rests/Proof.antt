@@ -39,8 +39,8 @@ slice-read-with-rest c =
     let s : Entry = search in
     omega (arith, room s, at .loop .inv .1 .as-long)
 
-rest-at-requires : tie.Need-rest-at-requires Inv-loop μ-loop
-rest-at-requires c κs = let s : Entry = search in (s .pre .0, omega (arith, s .pre .0 .long))
+rest-in-requires : tie.Need-rest-in-requires Inv-loop μ-loop
+rest-in-requires c κs = let s : Entry = search in (s .pre .0, omega (arith, s .pre .0 .long))
 
 slice-write-out : tie.Need-slice-write-out Inv-loop μ-loop
 slice-write-out c =
@@ -51,12 +51,12 @@ slice-write-out c =
 loop-again : tie.Need-loop-again Inv-loop μ-loop
 loop-again c =
     let x : tie.After-with-rest Inv-loop μ-loop = search in
-    let r : tie.After-rest-at Inv-loop μ-loop = search in
+    let r : tie.After-rest-in Inv-loop μ-loop = search in
     let at : Head = search in
     let s : Entry = search in (
       search needs,
       rests-next _ (at .loop .inv .1) (omega (arith, room s, at .loop .inv .1 .as-long))
-          (x .with-rest .ensures ∙ ap (λ (t : ℕ). (getD (at .loop .out) (at .loop .p) 0 + t) % 8) (r .rest-at .ensures .0)),
+          (x .with-rest .ensures ∙ ap (λ (t : ℕ). (getD (at .loop .out) (at .loop .p) 0 + t) % 8) (r .rest-in .ensures .0)),
     )
 
 same-length : tie.Need-same-length Inv-loop μ-loop
@@ -77,7 +77,7 @@ add-rests-spec =
     μ-loop
     loop-holds
     slice-read-with-rest
-    rest-at-requires
+    rest-in-requires
     (λ c κs. search needs)
     slice-write-out
     (λ c. search needs)

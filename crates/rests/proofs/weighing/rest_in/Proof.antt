@@ -6,8 +6,8 @@ use borrow.Author.Needs.{needs}
 use denote.Ref.{now}
 use Rattle.circuit.specs.Limits.{maxWires, parities}
 use Rattle.rests.proofs.RestSteps.{rest-more-wires, rest-one-wire, rest-two-wires}
-use Rattle.rests.proofs.weighing.rest_at.Statement.{statement}
-use Rattle.rests.proofs.weighing.rest_at.Tie as tie
+use Rattle.rests.proofs.weighing.rest_in.Statement.{statement}
+use Rattle.rests.proofs.weighing.rest_in.Tie as tie
 
 -- a parity
 inside : (s : tie.Start) → s .args .p < parities
@@ -41,8 +41,8 @@ returns-3 c =
     let s : tie.Start = search in
     (rest-more-wires (s .args .n) (now (s .args .s)) (s .args .p) (omega arith) (omega arith), omega arith)
 
-pub rest-at-spec : {M : Type 1} → statement M
-rest-at-spec =
+pub rest-in-spec : {M : Type 1} → statement M
+rest-in-spec =
     tie.close
     (tie.spec
     cast-wires-of
