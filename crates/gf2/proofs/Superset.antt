@@ -169,8 +169,8 @@ module _ (n : ℕ) (f : ℕ → ℕ) where
 
       higher : (r : ℕ) → r < 2 ^ n → covers (suc n) (2 ^ n + m) (2 ^ n + r) ≡ covers n m r
       higher r l =
-          covers-asks n (2 ^ n + m) (2 ^ n + r) (bit-added n m h)
-          ∙ rw (bit-added n r l, covers-ext n (2 ^ n + m) m (2 ^ n + r) r (λ i g. bit-under n m i g) (λ i g. bit-under n r i g)) (omega arith)
+          let low = covers-ext n (2 ^ n + m) m (2 ^ n + r) r (λ i g. bit-under n m i g) (λ i g. bit-under n r i g) in
+          covers-asks n (2 ^ n + m) (2 ^ n + r) (bit-added n m h) ∙ rw (bit-added n r l, low) (omega arith)
 
 -- ---- all wires
 

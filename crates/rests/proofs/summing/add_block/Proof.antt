@@ -38,8 +38,10 @@ add-s-2 c =
     let at : Head = search in
     let s : Entry = search in
     let a = at .loop .inv .2 in
+    let long = a .as-long in
     let small = ahead-small a (s .pre .1) in
-    record { fits = omega (arith, small (at .loop .p) (le-refl _) (omega (arith, a .as-long)), small (at .loop .p + s .args .h) (omega arith) (omega (arith, a .as-long))) }
+    let p = at .loop .p in
+    record { fits = omega (arith, small p (le-refl _) (omega arith), small (p + s .args .h) (omega arith) (omega arith)) }
 
 slice-write-s : tie.Need-slice-write-s Inv-loop μ-loop
 slice-write-s c = let at : Head = search in omega (arith, at .loop .inv .2 .as-long)
