@@ -30,10 +30,6 @@ use Rattle.moves.specs.Sets.{In}
 use Rattle.finder.specs.Halves.{HalfApart, HalfIn, Without}
 use Rattle.finder.specs.OneZ.{HasPair, Members, NoneWith, ToAsk}
 
--- nothing is said where the answer is no
-pub never : {P : Type 0} → false ≡ true → P
-never e = let z : _≡_ {A = ℕ} 0 1 = cc in absurd (omega arith)
-
 -- ---- members at places
 
 -- y stands at one of the first i places

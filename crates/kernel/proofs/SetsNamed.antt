@@ -13,6 +13,7 @@ use lib.Seq.{getD-set-other}
 use Rattle.circuit.proofs.OddSet.{members-sum}
 use Rattle.circuit.specs.Limits.{maxMembers, maxWires, moveCells, moveHead, parities, productBits, tableBytes}
 use Rattle.circuit.specs.OddSet.{memberCount}
+use Rattle.circuit.specs.Sound.{weight}
 use Rattle.echelon.specs.Slots.{NextSlot, SlotMembers}
 use Rattle.gf2.proofs.Combination.{combine-whole}
 use Rattle.gf2.proofs.Selection.{combine-first, combine-next}
@@ -249,21 +250,31 @@ module _ (marks set : List ℕ) (z m : ℕ) (member : List ℕ) {k : ℕ} (none 
       go (no ne) = none j (omega arith) e q
 
 -- none of the slots' members, nor a: none at all
-pub pair-none : (marks : List ℕ) (z : ℕ) {set member : List ℕ} {a m k : ℕ} → SetNamed a m member set → (PairIn marks z set a → ⊥)
-    → NoneTo marks z set m member k → productBits ≤ k → PairAt marks z set tableBytes
-pair-none marks z {set} {member} {a} {m} {k} w a-none none all =
-    record { some = λ h. absurd (omega (arith, w .small .long)); none = λ h y q. go y q (ℕ-discrete y a) }
+pub no-pair : (marks : List ℕ) (z a m : ℕ) (member : List ℕ) {k : ℕ} → (PairIn marks z (setWith a m member) a → ⊥)
+    → NoneTo marks z (setWith a m member) m member k → productBits ≤ k → NoPair marks z a m member
+no-pair marks z a m member {k} a-none none all y q = go (ℕ-discrete y a)
   where
     w₀ : List ℕ
     w₀ = named parities member m productBits
 
-    go : (y : ℕ) → PairIn marks z set y → Dec (y ≡ a) → ⊥
-    go y q (yes e) = a-none (rw e at q)
-    go y q (no ne) =
-        let on : getD (setWith a m member) y 0 ≡ 1 = ap (λ (u : List ℕ). getD u y 0) (sym (w .is)) ∙ q .on in
+    go : Dec (y ≡ a) → ⊥
+    go (yes e) = a-none (rw e at q)
+    go (no ne) =
         let f = named-from parities member m productBits y
-        (λ e. omega (arith, on, getD-set-other w₀ a y ((getD w₀ a 0 + 1) % 2) 0 ne)) in
+        (λ e. omega (arith, q .on, getD-set-other w₀ a y ((getD w₀ a 0 + 1) % 2) 0 ne)) in
         none (f .0) (omega (arith, f .1)) (f .2) (rw (f .3) q)
+
+pub pair-none : (marks : List ℕ) (z : ℕ) {set member : List ℕ} {a m k : ℕ} → SetNamed a m member set → (PairIn marks z set a → ⊥)
+    → NoneTo marks z set m member k → productBits ≤ k → PairAt marks z set tableBytes
+pair-none marks z {set} {member} {a} {m} {k} w a-none none all =
+    record {
+      some = λ h. absurd (omega (arith, w .small .long));
+      none = λ h y q. no-pair marks z a m member (rw (w .is) at a-none) (rw (w .is) at none) all y (rw (w .is) at q);
+    }
+
+-- where the partner of y is no member, y is not one of a pair
+pub no-partner : {marks set : List ℕ} {z y r p : ℕ} → r ≡ weight marks p → p ≡ bitXor y z → r ≢ 1 → PairIn marks z set y → ⊥
+no-partner {marks} e f ne q = ne (e ∙ ap (weight marks) f ∙ q .partner)
 
 -- ---- the set named, searched and mended
 

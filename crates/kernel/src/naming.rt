@@ -1,4 +1,5 @@
 // From a mask of slots to the cells of a move: the members that it names and the one whose column came down to 0, in ascending order.
+ghost use mathlib.Core.Bool.{true};
 ghost use mathlib.Core.Path.{_≡_};
 ghost use Prim.Native.Nat.{_<_};
 ghost use lib.ListN.{length, replicate};
@@ -6,7 +7,7 @@ ghost use Rattle.circuit.specs.Limits.{moveCells, parities, tableBytes};
 ghost use Rattle.echelon.specs.Slots.{SlotMembers};
 ghost use Rattle.moves.specs.Tests.{Decides};
 ghost use Rattle.moves.specs.Pair.{PairIn, mended};
-ghost use Rattle.kernel.specs.Naming.{FewBelow, NamesSet, PairAt, SetNamed, WritesMove, listedCells};
+ghost use Rattle.kernel.specs.Naming.{FewBelow, NamesSet, NoPair, PairAt, SetNamed, WritesMove, listedCells};
 use circuit::cells::cell_at;
 use circuit::cells::put_cell;
 use circuit::copying::copy_parities;
@@ -36,6 +37,9 @@ pub fn write_move(
     requires { ⌜ SlotMembers (now member) × (length (now cells) ≡ moveCells) ⌝ }
     ensures { λ r. ⌜ WritesMove (now (marks .entry)) z a m (now (member .entry)) (now (cells .entry)) (now (cells .exit)) r ⌝ }
 {
+    if all_lone(marks, z, a, m, member) {
+        return Sought::Nothing;
+    }
     let mut set = [0 as Mark; TABLE_BYTES];
     let named = name_set(m, a, member, &mut set);
     let at = pair_at(marks, z, a, m, member, &set);
@@ -49,6 +53,31 @@ pub fn write_move(
     let listed = list(z, end, &set);
     copy_parities(&listed, cells);
     Sought::Found
+}
+
+// True only where neither a nor the member of a slot in the mask has its partner. Then the set has no one of a pair, and it is not named.
+fn all_lone(
+    marks: &[Mark],
+    z: Parity,
+    a: Parity,
+    m: u64,
+    member: &[Parity; PRODUCT_BITS],
+) -> bool
+    requires { ⌜ (length (now marks) ≡ tableBytes) × (z < parities) × (a < parities) ⌝ }
+    requires { ⌜ SlotMembers (now member) ⌝ }
+    ensures { λ r. ⌜ (r ≡ true → NoPair (now (marks .entry)) z a m (now (member .entry))) ⌝ }
+{
+    if mark_at(marks, a ^ z) == 1 {
+        return false;
+    }
+    let mut s = next_slot(m, 0);
+    while s < PRODUCT_BITS {
+        if mark_at(marks, cell_at(member, s) ^ z) == 1 {
+            return false;
+        }
+        s = next_slot(m, s + 1);
+    }
+    true
 }
 
 // What is known of a set beside its marks: the xor of its numbers, which is 0 or z; and `top`, their or, which none of them is above.

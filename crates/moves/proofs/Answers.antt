@@ -7,11 +7,15 @@ use lib.Dec.{eqb}
 use borrow.Author.Tests.{eqb-false, eqb-true, not-false, not-true}
 use Rattle.moves.specs.Tests.{Decides}
 
+-- nothing is said where the answer is no
+pub never : {P : Type 0} → false ≡ true → P
+never e = let z : _≡_ {A = ℕ} 0 1 = cc in absurd (omega arith)
+
 pub answer-yes : {P : Type 0} → P → Decides true P
 answer-yes p = (λ e. p, λ e. let z : _≡_ {A = ℕ} 0 1 = cc in absurd (omega arith))
 
 pub answer-no : {P : Type 0} → (P → ⊥) → Decides false P
-answer-no n = (λ e. let z : _≡_ {A = ℕ} 0 1 = cc in absurd (omega arith), λ e. n)
+answer-no n = (never, λ e. n)
 
 pub decides-equal : (a b : ℕ) → Decides (eqb a b) (a ≡ b)
 decides-equal a b = (eqb-true a b, eqb-false a b)

@@ -9,9 +9,9 @@ use denote.Ref.{now}
 use Rattle.circuit.specs.Limits.{parities}
 use Rattle.echelon.specs.Slots.{Masked}
 use Rattle.gf2.specs.Echelon.{held}
+use Rattle.moves.proofs.Answers.{never}
 use Rattle.finder.proofs.Apart.{ApartTo, HalfKept, apart-more, apart-none, apart-off, apart-paired, apart-start}
 use Rattle.finder.proofs.Apart.{half-first, half-next}
-use Rattle.finder.proofs.Apart.{never}
 use Rattle.finder.proofs.InTurn.{partner-below}
 use Rattle.finder.proofs.halves.all_apart.Statement.{statement}
 use Rattle.finder.proofs.halves.all_apart.Tie as tie
