@@ -56,13 +56,7 @@ pub fn write_move(
 }
 
 // True only where neither a nor the member of a slot in the mask has its partner. Then the set has no one of a pair, and it is not named.
-fn all_lone(
-    marks: &[Mark],
-    z: Parity,
-    a: Parity,
-    m: u64,
-    member: &[Parity; PRODUCT_BITS],
-) -> bool
+fn all_lone(marks: &[Mark], z: Parity, a: Parity, m: u64, member: &[Parity; PRODUCT_BITS]) -> bool
     requires { ⌜ (length (now marks) ≡ tableBytes) × (z < parities) × (a < parities) ⌝ }
     requires { ⌜ SlotMembers (now member) ⌝ }
     ensures { λ r. ⌜ (r ≡ true → NoPair (now (marks .entry)) z a m (now (member .entry))) ⌝ }

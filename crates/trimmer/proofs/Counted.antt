@@ -7,13 +7,14 @@ use native.Mathlib.Numerals.{add-one}
 use native.Mathlib.Omega.{arith}
 use lib.ListN.{getD, length}
 use Rattle.circuit.proofs.Bytes.{gates-step, gates-tail, gatesFrom}
+use Rattle.circuit.proofs.OddSet.{members-sum}
 use Rattle.circuit.specs.Gate.{T, T-dagger, isT, tGates}
 use Rattle.circuit.specs.Limits.{gateBytes, parities}
 use Rattle.circuit.specs.OddSet.{memberCount}
 use Rattle.circuit.specs.TableFaults.{Marked}
 use Rattle.gf2.proofs.Pairing.{sum-stop}
 use Rattle.gf2.proofs.Sum.{delta-other, sum-suc}
-use Rattle.gf2.specs.Sum.{delta, sum}
+use Rattle.gf2.specs.Sum.{sum}
 use Rattle.moves.proofs.Laws.{limits-suffice}
 
 pub t-next : (bytes : List ℕ) (i : ℕ) → gateBytes * i + 2 < length bytes
@@ -29,16 +30,15 @@ pub is-t-other : (kind : ℕ) → kind ≢ T → kind ≢ T-dagger → isT kind 
 unfolding isT
 is-t-other kind a b = rw (delta-other T kind a, delta-other T-dagger kind b)
 
-pub members-next : (marks : List ℕ) (p count x : ℕ) → count ≡ sum p (λ p. delta 1 (getD marks p 0)) → x ≡ delta 1 (getD marks p 0)
-    → count + x ≡ sum (p + 1) (λ p. delta 1 (getD marks p 0))
-members-next marks p count x e f = rw (add-one p, sum-suc p (λ p. delta 1 (getD marks p 0)), e, f)
+-- the marks before p summed, and that of p
+pub members-next : (marks : List ℕ) (p : ℕ) {count : ℕ} → count ≡ sum p (λ p. getD marks p 0)
+    → count + getD marks p 0 ≡ sum (p + 1) (λ p. getD marks p 0)
+members-next marks p e = rw (add-one p, sum-suc p (λ p. getD marks p 0), e)
 
 -- no mark from 2^n up
-pub members-end : {n : ℕ} {marks : List ℕ} {count : ℕ} → Marked n marks → count ≡ sum (2 ^ n) (λ p. delta 1 (getD marks p 0))
+pub members-end : {n : ℕ} {marks : List ℕ} {count : ℕ} → Marked n marks → count ≡ sum (2 ^ n) (λ p. getD marks p 0)
     → count ≡ memberCount marks
-unfolding memberCount
 members-end {n} {marks} m e =
     e
-    ∙ sym (ap (λ (k : ℕ). sum k (λ p. delta 1 (getD marks p 0))) (m .sound .long)
-    ∙ sum-stop (2 ^ n) parities (λ p. delta 1 (getD marks p 0)) (limits-suffice n (m .few) .0)
-    (λ p h. ap (delta 1) (m .sound .high p h) ∙ delta-other 1 0 (λ q. omega arith)))
+    ∙ sym (members-sum marks (m .sound .bits) ∙ ap (λ (k : ℕ). sum k (λ p. getD marks p 0)) (m .sound .long)
+    ∙ sum-stop (2 ^ n) parities (λ p. getD marks p 0) (limits-suffice n (m .few) .0) (m .sound .high))

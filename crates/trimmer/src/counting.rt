@@ -4,7 +4,6 @@ ghost use Prim.Native.Nat.{_<_};
 ghost use Rattle.circuit.specs.Gate.{isT, tGates, gatesOf};
 ghost use Rattle.circuit.specs.OddSet.{memberCount};
 ghost use Rattle.circuit.specs.TableFaults.{Marked};
-ghost use Rattle.gf2.specs.Sum.{delta};
 use circuit::gates::T;
 use circuit::gates::T_DAGGER;
 use circuit::limits::GATE_BYTES;
@@ -35,23 +34,14 @@ fn is_t(kind: u8) -> usize
     }
 }
 
-// How many members an odd set on n wires has: the parities marked 1. None is from 2^n up.
+// How many members an odd set on n wires has: the parities marked 1, so the marks summed. None is from 2^n up.
 pub fn members_of(n: usize, marks: &[Mark; TABLE_BYTES]) -> usize
     requires { ⌜ Marked n (now marks) ⌝ }
     ensures { λ r. ⌜ r ≡ memberCount (now (marks .entry)) ⌝ }
 {
     let mut count: usize = 0;
     for p in 0..1 << n {
-        count += is_member(marks[p]);
+        count += marks[p] as usize;
     }
     count
-}
-
-fn is_member(mark: Mark) -> usize
-    ensures { λ r. ⌜ (r ≡ delta 1 mark) × (r < 2) ⌝ }
-{
-    match mark {
-        1 => 1,
-        _ => 0,
-    }
 }

@@ -8,13 +8,13 @@ use borrow.Author.Needs.{needs}
 use denote.Ref.{now}
 use Rattle.circuit.proofs.Steps.{shifted}
 use Rattle.circuit.specs.Limits.{maxWires, parities}
-use Rattle.gf2.specs.Sum.{delta, sum}
+use Rattle.gf2.specs.Sum.{sum}
 use Rattle.trimmer.proofs.Counted.{members-end, members-next}
 use Rattle.trimmer.proofs.counting.members_of.Statement.{statement}
 use Rattle.trimmer.proofs.counting.members_of.Tie as tie
 
 abbrev Inv-loop : tie.InvT-loop
-Inv-loop n marks count₀ p₀ p-end count p = (p ≤ p-end) × (count ≤ p) × (count ≡ sum p (λ p. delta 1 (getD marks p 0)))
+Inv-loop n marks count₀ p₀ p-end count p = (p ≤ p-end) × (count ≤ p) × (count ≡ sum p (λ p. getD marks p 0))
 
 abbrev μ-loop : tie.MeasureT-loop
 μ-loop n marks count₀ p₀ p-end count p = p-end - p
@@ -45,29 +45,30 @@ loop-holds : tie.Need-loop-holds Inv-loop μ-loop
 unfolding sum
 loop-holds c = (search needs, search needs, refl)
 
-element-copy-out-is-member : tie.Need-element-copy-out-is-member Inv-loop μ-loop
-element-copy-out-is-member c =
+element-copy-out-count : tie.Need-element-copy-out-count Inv-loop μ-loop
+element-copy-out-count c =
     let at : Head = search in
     let s = entry at in
     omega (arith, end-is s, pow-mono {i = s .args .n} {j = maxWires} (s .pre .few))
 
+cast-count : tie.Need-cast-count Inv-loop μ-loop
+cast-count c = let at : Head = search in record { fits = omega (arith, entry at .pre .sound .bits (at .loop .p)) }
+
 add-count : tie.Need-add-count Inv-loop μ-loop
 add-count c =
     let at : Head = search in
-    record { fits = omega (arith, below at, at .loop .inv .1, c .is-member .ensures .1) }
+    record { fits = omega (arith, below at, at .loop .inv .1, entry at .pre .sound .bits (at .loop .p)) }
 
 add-p : tie.Need-add-p Inv-loop μ-loop
 add-p c = let at : Head = search in record { fits = omega (arith, below at) }
 
 loop-again : tie.Need-loop-again Inv-loop μ-loop
 loop-again c =
-    let r : tie.After-is-member Inv-loop μ-loop = search in
     let at : Head = search in
     let s = entry at in (
       search needs,
-      omega (arith, at .loop .inv .1, r .is-member .ensures .1),
-      members-next (now (s .args .marks)) (at .loop .p) (at .loop .count) (r .is-member .result) (at .loop .inv .2)
-          (r .is-member .ensures .0),
+      omega (arith, at .loop .inv .1, s .pre .sound .bits (at .loop .p)),
+      members-next (now (s .args .marks)) (at .loop .p) (at .loop .inv .2),
     )
 
 returns : tie.Need-returns Inv-loop μ-loop
@@ -85,8 +86,8 @@ members-of-spec =
     μ-loop
     shl-p-end
     loop-holds
-    element-copy-out-is-member
-    (λ c κs. search needs)
+    element-copy-out-count
+    cast-count
     add-count
     add-p
     (λ c. search needs)
