@@ -2,3 +2,5 @@ pub mod Computed
 pub mod Entries
 pub mod Wires
 pub mod Laws
+pub mod InTurn
+pub mod Apart

@@ -6,7 +6,9 @@ ghost use Rattle.circuit.specs.Limits.{maxWires, parities, productBits};
 ghost use Rattle.moves.specs.Column.{bar, column};
 ghost use Rattle.columns.specs.Table.{ProductTable};
 
+pub mod halves;
 pub mod table;
+pub mod turns;
 
 use circuit::limits::PARITIES;
 use circuit::limits::Parity;

@@ -28,10 +28,10 @@ use Rattle.moves.specs.Log.{SmallestCells}
 use Rattle.moves.specs.Move.{Legal, NoneBelow}
 use Rattle.moves.specs.Pair.{Stands, mended, pairTag}
 use Rattle.moves.specs.Sets.{listed}
-use Rattle.finder.proofs.InTurn.{had-all, had-last, had-new, had-none, had-stands, had-wider}
+use Rattle.columns.proofs.InTurn.{had-all, had-last, had-new, had-none, had-stands, had-wider}
 use Rattle.kernel.specs.Naming.{MoveOf, setWith, totalWith}
 use Rattle.kernel.specs.Offer.{Offered, Passes}
-use Rattle.finder.specs.OneZ.{Had, Members, NoneWith, ToAsk, TurnOf}
+use Rattle.columns.specs.OneZ.{Had, Members, NoneWith, ToAsk, TurnOf}
 
 -- ---- what stands beside the slots that the scan begins with
 

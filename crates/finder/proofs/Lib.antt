@@ -1,6 +1,4 @@
 pub mod Listing
-pub mod InTurn
-pub mod Apart
 pub mod Asking
 pub mod OnWires
 pub mod FindWays

@@ -13,7 +13,7 @@ use Rattle.moves.proofs.Keep.{member-lt}
 use Rattle.moves.proofs.Sets.{in-listed, listed-in, listed-off, listed-on}
 use Rattle.moves.proofs.Wires.{sound-wires}
 use Rattle.moves.specs.Sets.{listed}
-use Rattle.finder.specs.OneZ.{Members}
+use Rattle.columns.specs.OneZ.{Members}
 use Rattle.finder.specs.Search.{Gathered}
 
 -- ---- the loop over the marks

@@ -1,4 +1,2 @@
-pub mod OneZ
-pub mod Halves
 pub mod Search
 pub mod Entry

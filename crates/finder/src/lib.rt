@@ -9,10 +9,8 @@ ghost use Rattle.columns.specs.Table.{ProductTable};
 ghost use Rattle.finder.specs.Entry.{FindMove};
 ghost use Rattle.finder.specs.Search.{Searched};
 
-pub mod halves;
 pub mod members;
 pub mod scan;
-pub mod turns;
 
 use circuit::cells::part;
 use circuit::faults::lent_fault;
@@ -37,7 +35,7 @@ pub enum Finding {
 }
 
 // Finds a legal move with the smallest z for the marks of an odd set and writes its cells. Where it finds none, and on refusal, the cells
-// stay as they were.
+// stay as they were. The product table is made once, so that the scan only reads it.
 pub fn find(n: usize, marks: &[Mark], cells: &mut [MoveCell]) -> Finding
     ensures { λ r. ⌜ FindMove n (now (marks .entry)) (now (cells .entry)) (now (cells .exit)) r ⌝ }
 {
@@ -48,20 +46,11 @@ pub fn find(n: usize, marks: &[Mark], cells: &mut [MoveCell]) -> Finding
             place: 0,
         };
     }
-    match search(n, marks, cells) {
+    let table = products();
+    match search_by(&table, n, marks, cells) {
         Sought::Found => Finding::Found,
         Sought::Nothing => Finding::Nothing,
     }
-}
-
-// The search for n wires, for marks without a fault. The product table is made once, so that the scan only reads it.
-fn search(n: usize, marks: &[Mark], cells: &mut [MoveCell]) -> Sought
-    requires { ⌜ Marked n (now marks) ⌝ }
-    requires { ⌜ length (now cells) ≡ moveCells ⌝ }
-    ensures { λ r. ⌜ Searched n (now (marks .entry)) (now (cells .entry)) (now (cells .exit)) r ⌝ }
-{
-    let table = products();
-    search_by(&table, n, marks, cells)
 }
 
 // The search with the product table lent: the members are gathered once, so that the scan goes through them alone. Internal: the caller has

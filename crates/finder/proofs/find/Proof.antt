@@ -28,28 +28,29 @@ judged j =
 returns : tie.Need-returns
 returns c = find-refused _ _ _ _ (judged (search)) (c .if1 .taken)
 
-search-requires : tie.Need-search-requires
-search-requires c κs =
+search-by-requires : tie.Need-search-by-requires
+search-by-requires c κs =
+    let table : tie.After-products = search in
     let clear : tie.Else1 = search in
     let j : Judged = search in
     let a = entry j .args in
-    may-search (a .n) (now (a .marks)) (now (a .cells)) (j .marks-call-fault .result) (judged j) (omega arith)
+    (table .products .ensures, may-search (a .n) (now (a .marks)) (now (a .cells)) (j .marks-call-fault .result) (judged j) (omega arith))
 
 returns-2 : tie.Need-returns-2
 returns-2 c =
-    let found : tie.After-search = search in
+    let found : tie.After-search-by = search in
     let clear : tie.Else1 = search in
     let j : Judged = search in
     find-found _ _ _ (j .marks-call-fault .result) (judged j) (omega arith) _
-    (rw (c .enum-told .given .1) at (found .search .ensures))
+    (rw (c .enum-told .given .1) at (found .search-by .ensures))
 
 returns-3 : tie.Need-returns-3
 returns-3 c =
-    let found : tie.After-search = search in
+    let found : tie.After-search-by = search in
     let clear : tie.Else1 = search in
     let j : Judged = search in
     find-nothing _ _ _ (j .marks-call-fault .result) (judged j) (omega arith) _
-    (rw (c .enum-told2 .given .1) at (found .search .ensures))
+    (rw (c .enum-told2 .given .1) at (found .search-by .ensures))
 
 pub find-spec : {M : Type 1} → statement M
 find-spec =
@@ -58,7 +59,8 @@ find-spec =
     (λ c κs. search needs)
     (λ c κs. search needs)
     returns
-    search-requires
+    (λ c κs. search needs)
+    search-by-requires
     (λ c. search needs)
     (λ c. search needs)
     (λ c. search needs)

@@ -11,11 +11,11 @@ use Rattle.circuit.specs.Limits.{maxMembers, maxWires}
 use Rattle.moves.proofs.Smallest.{none-below-more}
 use Rattle.moves.specs.Move.{NoneBelow}
 use Rattle.moves.specs.declared.Sought.the-variants.{Nothing}
-use Rattle.finder.proofs.Apart.{half-kept}
+use Rattle.columns.proofs.Apart.{half-kept}
 use Rattle.finder.proofs.Asking.{AskedBefore, HighestWire, Places, asked-next, asked-start, highest-wire, no-members}
 use Rattle.finder.proofs.Asking.{offered-smallest, slot-places, z-passed}
-use Rattle.finder.proofs.InTurn.{members-below, turn-below}
-use Rattle.finder.specs.Halves.{HalfIn}
+use Rattle.columns.proofs.InTurn.{members-below, turn-below}
+use Rattle.columns.specs.Halves.{HalfIn}
 use Rattle.finder.proofs.scan.scan_wire.Statement.{statement}
 use Rattle.finder.proofs.scan.scan_wire.Tie as tie
 

@@ -3,7 +3,7 @@
 ghost use Prim.Native.Nat.{_*_, _<_};
 ghost use lib.ListN.{length};
 ghost use Rattle.circuit.specs.Limits.{maxWires, parities};
-ghost use Rattle.finder.specs.OneZ.{Members, TurnOf};
+ghost use Rattle.columns.specs.OneZ.{Members, TurnOf};
 use circuit::cells::cell_at;
 use circuit::limits::Mark;
 use circuit::limits::Parity;

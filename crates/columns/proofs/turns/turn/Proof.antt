@@ -1,9 +1,9 @@
 -- Each way out by its law.
 use native.Mathlib.Omega.{arith}
 use borrow.Author.Needs.{needs}
-use Rattle.finder.proofs.InTurn.{partner-below, turn-alone, turn-had, turn-of-pair, turn-of-single, turn-with-wire}
-use Rattle.finder.proofs.turns.turn.Statement.{statement}
-use Rattle.finder.proofs.turns.turn.Tie as tie
+use Rattle.columns.proofs.InTurn.{partner-below, turn-alone, turn-had, turn-of-pair, turn-of-single, turn-with-wire}
+use Rattle.columns.proofs.turns.turn.Statement.{statement}
+use Rattle.columns.proofs.turns.turn.Tie as tie
 
 returns : tie.Need-returns
 returns c =

@@ -9,10 +9,10 @@ use borrow.Author.Needs.{needs}
 use denote.Ref.{now}
 use Rattle.circuit.specs.Sound.{weight}
 use Rattle.moves.proofs.Answers.{answer-no, answer-yes}
-use Rattle.finder.proofs.Apart.{has-partner, lone, no-partner}
-use Rattle.finder.proofs.InTurn.{partner-below}
-use Rattle.finder.proofs.halves.has_pair.Statement.{statement}
-use Rattle.finder.proofs.halves.has_pair.Tie as tie
+use Rattle.columns.proofs.Apart.{has-partner, lone, no-partner}
+use Rattle.columns.proofs.InTurn.{partner-below}
+use Rattle.columns.proofs.halves.has_pair.Statement.{statement}
+use Rattle.columns.proofs.halves.has_pair.Tie as tie
 
 abbrev Inv-loop : tie.InvT-loop
 Inv-loop marks ys z i₀ i = (i ≤ length ys) × ((j : ℕ) → j < i → weight marks (bitXor (getD ys j 0) z) ≢ 1)

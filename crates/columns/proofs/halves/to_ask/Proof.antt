@@ -4,9 +4,9 @@ use native.Mathlib.Omega.{arith}
 use borrow.Author.Needs.{needs}
 use borrow.Author.Tests.{not-false}
 use Rattle.moves.proofs.Answers.{denied}
-use Rattle.finder.proofs.Apart.{ask-all, ask-none, legal-pair}
-use Rattle.finder.proofs.halves.to_ask.Statement.{statement}
-use Rattle.finder.proofs.halves.to_ask.Tie as tie
+use Rattle.columns.proofs.Apart.{ask-all, ask-none, legal-pair}
+use Rattle.columns.proofs.halves.to_ask.Statement.{statement}
+use Rattle.columns.proofs.halves.to_ask.Tie as tie
 
 returns : tie.Need-returns
 returns c =

@@ -9,9 +9,9 @@ use Rattle.echelon.proofs.Masks.{masked-long, masked-none}
 use Rattle.echelon.specs.Slots.{Masked}
 use Rattle.gf2.specs.Echelon.{held}
 use Rattle.moves.proofs.Answers.{never}
-use Rattle.finder.proofs.Apart.{HalfTo, half-all, half-more, half-none, half-skip}
-use Rattle.finder.proofs.halves.half_of.Statement.{statement}
-use Rattle.finder.proofs.halves.half_of.Tie as tie
+use Rattle.columns.proofs.Apart.{HalfTo, half-all, half-more, half-none, half-skip}
+use Rattle.columns.proofs.halves.half_of.Statement.{statement}
+use Rattle.columns.proofs.halves.half_of.Tie as tie
 
 abbrev Inv-loop : tie.InvT-loop
 Inv-loop products ys t most vec₀ filled₀ i₀ vec filled i = (i ≤ length ys) × HalfTo ys t i (held filled vec) × Masked filled vec

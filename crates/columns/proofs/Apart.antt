@@ -27,8 +27,8 @@ use Rattle.moves.proofs.Pairs.{partner-back}
 use Rattle.moves.specs.Column.{column}
 use Rattle.moves.specs.Pair.{Stands, pairTag}
 use Rattle.moves.specs.Sets.{In}
-use Rattle.finder.specs.Halves.{HalfApart, HalfIn, Without}
-use Rattle.finder.specs.OneZ.{HasPair, Members, NoneWith, ToAsk}
+use Rattle.columns.specs.Halves.{HalfApart, HalfIn, Without}
+use Rattle.columns.specs.OneZ.{HasPair, Members, NoneWith, ToAsk}
 
 -- ---- members at places
 

@@ -10,11 +10,11 @@ use Rattle.circuit.specs.Limits.{parities}
 use Rattle.echelon.specs.Slots.{Masked}
 use Rattle.gf2.specs.Echelon.{held}
 use Rattle.moves.proofs.Answers.{never}
-use Rattle.finder.proofs.Apart.{ApartTo, HalfKept, apart-more, apart-none, apart-off, apart-paired, apart-start}
-use Rattle.finder.proofs.Apart.{half-first, half-next}
-use Rattle.finder.proofs.InTurn.{partner-below}
-use Rattle.finder.proofs.halves.all_apart.Statement.{statement}
-use Rattle.finder.proofs.halves.all_apart.Tie as tie
+use Rattle.columns.proofs.Apart.{ApartTo, HalfKept, apart-more, apart-none, apart-off, apart-paired, apart-start}
+use Rattle.columns.proofs.Apart.{half-first, half-next}
+use Rattle.columns.proofs.InTurn.{partner-below}
+use Rattle.columns.proofs.halves.all_apart.Statement.{statement}
+use Rattle.columns.proofs.halves.all_apart.Tie as tie
 
 abbrev Inv-loop : tie.InvT-loop
 Inv-loop products marks ys z t half vec₀ filled₀ i₀ vec filled i =

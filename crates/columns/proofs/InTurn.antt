@@ -16,7 +16,7 @@ use Rattle.gf2.specs.Bit.{bit}
 use Rattle.gf2.specs.Over.{Below}
 use Rattle.moves.proofs.Keep.{member-lt}
 use Rattle.moves.specs.Pair.{Stands}
-use Rattle.finder.specs.OneZ.{Had, Members, Turn, TurnOf}
+use Rattle.columns.specs.OneZ.{Had, Members, Turn, TurnOf}
 
 -- ---- members and their partners are parities
 
