@@ -1,6 +1,6 @@
 -- Whether the columns for a z are apart: the members without wire t go in first, for all z with this wire; then, for one z, the members
 -- with it that have no partner. Where each of them opened a slot, no move with z is legal.
-use mathlib.Core.Bool.{Bool, false, true}
+use mathlib.Core.Bool.{Bool}
 use mathlib.Core.List.{List}
 use mathlib.Core.Logic.{_≢_, _⊎_, inl, inr}
 use mathlib.Core.Path.{_∙_, _≡_, ap, refl, sym}

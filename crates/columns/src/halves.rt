@@ -1,8 +1,9 @@
 // Whether the columns for a z depend on each other at all: looked for before what is needed to name a set. The columns of the members
 // without wire t are the same for all z with that wire, so they are eliminated once for those whose highest wire it is.
 ghost use mathlib.Core.Bool.{true};
+ghost use mathlib.Core.Logic.{_≢_};
 ghost use mathlib.Core.Path.{_≡_};
-ghost use Prim.Native.Nat.{_<_};
+ghost use Prim.Native.Nat.{_<_, _^_};
 ghost use lib.ListN.{length};
 ghost use Rattle.circuit.specs.Limits.{maxWires, parities, productBits};
 ghost use Rattle.columns.specs.Table.{ProductTable};
@@ -19,6 +20,7 @@ use circuit::limits::Mark;
 use circuit::limits::PARITIES;
 use circuit::limits::PRODUCT_BITS;
 use circuit::limits::Parity;
+use circuit::parity::unit;
 use echelon::grow;
 use moves::marks::mark_at;
 
@@ -30,7 +32,7 @@ pub struct Half {
 
 // Eliminates the members without wire t. Where there are more than `most` members it looks at none: at most `most` columns can be apart, so
 // those of so many members seldom are.
-pub fn half_of(
+fn half_of(
     products: &[u64; PARITIES],
     ys: &[Parity],
     t: usize,
@@ -67,6 +69,27 @@ pub fn half_of(
         apart: true,
         filled: filled,
     }
+}
+
+// The half for z and its highest wire t: eliminated for the first z with this wire, and for the others as it was.
+pub fn half_at(
+    products: &[u64; PARITIES],
+    ys: &[Parity],
+    z: Parity,
+    t: usize,
+    most: usize,
+    half: Half,
+    vec: &mut [u64; PRODUCT_BITS],
+) -> Half
+    requires { ⌜ ProductTable (now products) ⌝ }
+    requires { ⌜ Below parities (now ys) × (t < maxWires) × (length (now vec) ≡ productBits) ⌝ }
+    requires { ⌜ (z ≢ 2 ^ t → HalfIn (now ys) t (half .apart) (half .filled) (now vec)) ⌝ }
+    ensures { λ r. ⌜ HalfIn (now (ys .entry)) t (r .apart) (r .filled) (now (vec .exit)) ⌝ }
+{
+    if z != unit(t) {
+        return half;
+    }
+    half_of(products, ys, t, most, vec)
 }
 
 // True only where all columns for z are apart, so that no move with z is legal: those of the singles with wire t go in after the half

@@ -3,7 +3,7 @@ use mathlib.Core.List.{List}
 use mathlib.Core.Logic.{_≢_}
 use mathlib.Core.Path.{_≡_}
 use Prim.Native.Nat.{_<_, _^_, _≤_, suc, ℕ}
-use lib.ListN.{getD, length, set}
+use lib.ListN.{length, set}
 use Rattle.circuit.specs.Limits.{parities, productBits}
 use Rattle.gf2.specs.Bit.{NextBit, bit}
 use Rattle.gf2.specs.Echelon.{AllHold, Reached, Shape, Stopped, held}

@@ -50,7 +50,7 @@ fn reduce(vec: &[u64; PRODUCT_BITS], filled: u64, v: u64) -> Reduced
 }
 
 // The slot of its leading bit.
-fn leading(x: u64) -> usize
+pub fn leading(x: u64) -> usize
     requires { ⌜ (x ≢ 0) × (x < 2 ^ productBits) ⌝ }
     ensures { λ r. ⌜ LeadingBit x r ⌝ }
 {

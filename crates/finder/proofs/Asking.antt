@@ -1,18 +1,20 @@
 -- The columns of one z asked in turn: what one that offers nothing leaves, what one that offers a set gives, and what holds when all were
 -- asked.
+use mathlib.Core.Bool.{Bool}
 use mathlib.Core.List.{List}
 use mathlib.Core.Logic.{_≢_, _⊎_, inl, inr}
-use mathlib.Core.Path.{_∙_, _≡_, ap}
-use Prim.Native.Nat.{_*_, _+_, _<_, _^_, _≤_, suc, ℕ}
+use mathlib.Core.Path.{_∙_, _≡_, ap, subst}
+use Prim.Native.Nat.{_*_, _+_, _<_, _^_, suc, ℕ}
+use native.Mathlib.Decide.{decLt, ℕ-discrete}
 use native.Mathlib.Nat.{le-refl}
 use native.Mathlib.Omega.{arith}
 use lib.Bits.{bitXor}
-use lib.Pow.{pow-mono}
+use lib.Pow.{pow-mono, pow-pos}
 use lib.ListN.{getD, getD-replicate, length, length-replicate, replicate}
 use Rattle.circuit.specs.Limits.{maxMembers, maxWires, parities, productBits}
 use Rattle.echelon.proofs.Masks.{masked-long, masked-none}
 use Rattle.echelon.proofs.Slots.{opened-slots}
-use Rattle.echelon.specs.Slots.{SlotMembers, Slots}
+use Rattle.echelon.specs.Slots.{LeadingBit, SlotMembers, Slots}
 use Rattle.gf2.proofs.Basis.{basis-had, basis-more, basis-none, basis-same, covers-tags}
 use Rattle.gf2.proofs.Held.{held-none}
 use Rattle.gf2.proofs.Leading.{bit-top}
@@ -31,6 +33,7 @@ use Rattle.moves.specs.Sets.{listed}
 use Rattle.columns.proofs.InTurn.{had-all, had-last, had-new, had-none, had-stands, had-wider}
 use Rattle.kernel.specs.Naming.{MoveOf, setWith, totalWith}
 use Rattle.kernel.specs.Offer.{Offered, Passes}
+use Rattle.columns.specs.Halves.{HalfIn}
 use Rattle.columns.specs.OneZ.{Had, Members, NoneWith, ToAsk, TurnOf}
 
 -- ---- what stands beside the slots that the scan begins with
@@ -144,14 +147,40 @@ z-passed {marks} {ys} {z} {t} {m} {filled} {vec} all t-lt z-t ask h Y legal = go
 
 -- ---- all z with highest wire t
 
--- z is a parity, and names t
+-- ---- the highest wire of z
+
+-- z is a parity, and t is its highest wire
 pub record HighestWire (t z : ℕ) : Type 0 where
   pub below : z < parities
+  pub wire : t < maxWires
   pub names : bit z t ≡ 1
 
-pub highest-wire : (t z : ℕ) → t < maxWires → 2 ^ t ≤ z → z < 2 ^ t + 2 ^ t → HighestWire t z
-highest-wire t z l lo hi =
-    record {
-      below = omega (arith, pow-mono {i = suc t} {j = maxWires} l);
-      names = bit-top t z lo (omega arith);
-    }
+pub highest-wire : {t z : ℕ} → z < parities → LeadingBit z t → HighestWire t z
+highest-wire {t} {z} l b = record { below = l; wire = wire (decLt t maxWires); names = bit-top t z (b .lo) (b .hi) }
+  where
+    wire : Dec (t < maxWires) → t < maxWires
+    wire (yes h) = h
+    wire (no h) = absurd (omega (arith, b .lo, pow-mono {i = maxWires} {j = t} (omega arith)))
+
+-- the half that is known when z is asked: that of its highest wire, unless z is the first with it
+abbrev pub HalfFor : List ℕ → ℕ → Bool → ℕ → List ℕ → Type 0
+HalfFor ys z apart filled vec = (t : ℕ) → 2 ^ t < z → z < 2 ^ suc t → HalfIn ys t apart filled vec
+
+pub half-for-one : {ys : List ℕ} {apart : Bool} {filled : ℕ} {vec : List ℕ} → HalfFor ys 1 apart filled vec
+half-for-one t lo hi = absurd (omega (arith, pow-pos t))
+
+pub half-for-this : {ys : List ℕ} {z t : ℕ} {apart : Bool} {filled : ℕ} {vec : List ℕ} → HalfFor ys z apart filled vec → LeadingBit z t
+    → z ≢ 2 ^ t → HalfIn ys t apart filled vec
+half-for-this {z = z} {t = t} h b ne = h t (omega (arith, b .lo)) (b .hi)
+
+pub half-for-next : {ys : List ℕ} {z t : ℕ} {apart : Bool} {filled : ℕ} {vec : List ℕ} → LeadingBit z t → HalfIn ys t apart filled vec
+    → HalfFor ys (z + 1) apart filled vec
+half-for-next {ys} {z} {t} {apart} {filled} {vec} b h s lo hi = subst (λ (w : ℕ). HalfIn ys w apart filled vec) (one-wire (ℕ-discrete t s)) h
+  where
+    one-wire : Dec (t ≡ s) → t ≡ s
+    one-wire (yes e) = e
+    one-wire (no ne) = absurd (go (decLt t s))
+      where
+        go : Dec (t < s) → ⊥
+        go (yes l) = omega (arith, b .hi, pow-mono {i = suc t} {j = s} (omega arith))
+        go (no l) = omega (arith, b .lo, pow-mono {i = suc s} {j = t} (omega arith))

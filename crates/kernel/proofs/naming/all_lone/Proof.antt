@@ -1,11 +1,11 @@
 -- Neither a nor the member of a slot passed so far has its partner.
 use mathlib.Core.Path.{refl}
-use Prim.Native.Nat.{_-_, _<_}
+use Prim.Native.Nat.{_-_}
 use native.Mathlib.Omega.{arith}
 use lib.Bits.{xor-lt}
 use borrow.Author.Needs.{needs}
 use denote.Ref.{now}
-use Rattle.circuit.specs.Limits.{maxWires, parities, productBits}
+use Rattle.circuit.specs.Limits.{maxWires, productBits}
 use Rattle.moves.proofs.Answers.{never}
 use Rattle.moves.specs.Pair.{PairIn}
 use Rattle.kernel.proofs.SetsNamed.{NoneTo, member-fits, no-pair, no-partner, none-lone, none-next}
