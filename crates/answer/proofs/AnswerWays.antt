@@ -26,8 +26,8 @@ use Rattle.text.specs.Text.{Sayable, Text, circuit, faulty, readText}
 use Rattle.text.specs.Written.{refusedLine}
 use Rattle.text.specs.declared.TextReply.{TextReply}
 use Rattle.text.specs.declared.TextReply.the-variants as read
+use Rattle.trimmed.specs.declared.Counts.{Counts}
 use Rattle.trimmer.specs.Entry.{Done-with, TrimLeft, TrimList, countsOf, told, trimLent, verdict}
-use Rattle.trimmer.specs.declared.Counts.{Counts}
 use Rattle.trimmer.specs.declared.TrimReply.{TrimReply}
 use Rattle.trimmer.specs.declared.TrimReply.the-variants as trim
 use Rattle.answer.specs.Entry.{AnswerText, OutLeft, Writes-printed}

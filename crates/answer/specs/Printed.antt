@@ -8,9 +8,9 @@ use Rattle.circuit.specs.declared.Reply.{Reply}
 use Rattle.circuit.specs.declared.Reply.the-variants.{Done, Refused}
 use Rattle.text.specs.Text.{Text, circuit, faulty}
 use Rattle.text.specs.Written.{countsLine, gateLines, refusedLine, wiresLine}
+use Rattle.trimmed.specs.Trimmed.{Trimmed}
+use Rattle.trimmed.specs.declared.Counts.{Counts}
 use Rattle.trimmer.specs.Entry.{Writes-for}
-use Rattle.trimmer.specs.Trimmed.{Trimmed}
-use Rattle.trimmer.specs.declared.Counts.{Counts}
 
 -- n, then T in, odd set size, T out and moves, then the gates
 abbrev pub trimLines : ℕ → Counts → List Gate → List ℕ

@@ -23,7 +23,7 @@ use text::lines::put_gates;
 use text::lines::put_refused;
 use text::lines::put_wires;
 use text::read_text;
-use trimmer::Counts;
+use trimmed::Counts;
 use trimmer::TrimReply;
 use trimmer::trim;
 

@@ -20,9 +20,9 @@ use Rattle.moves.specs.Replay.{Replays}
 use Rattle.phase.specs.NewWeights.{newWeights}
 use Rattle.synth.proofs.Spelled.{occurs-none}
 use Rattle.synth.specs.Spelling.{gatesOfKind, occurs, spelledGates, spelling}
+use Rattle.trimmed.specs.Trimmed.{Trimmed, oddSetOf, weightsOf}
+use Rattle.trimmed.specs.declared.Counts.{Counts}
 use Rattle.trimmer.specs.Entry.{Writes-for, noCounts}
-use Rattle.trimmer.specs.Trimmed.{Trimmed, oddSetOf, weightsOf}
-use Rattle.trimmer.specs.declared.Counts.{Counts}
 
 pub all-none : (k : Counts) → k .tin ≡ 0 → k .odd ≡ 0 → k .tout ≡ 0 → k .moves ≡ 0 → k .gates ≡ 0 → k ≡ noCounts
 all-none k a b c d e = λ i. record { tin = a i; odd = b i; tout = c i; moves = d i; gates = e i }

@@ -20,9 +20,9 @@ use Rattle.moves.specs.CarryOut.{carryOut}
 use Rattle.moves.specs.Decide.{isLegal, sameCells}
 use Rattle.phase.specs.Coefficients.{c, l, q}
 use Rattle.phase.specs.NewWeights.{newWeights}
+use Rattle.trimmed.specs.Trimmed.{oddSetOf, weightsOf}
+use Rattle.trimmed.specs.declared.Counts.{Counts}
 use Rattle.trimmer.specs.Entry.{noCounts}
-use Rattle.trimmer.specs.Trimmed.{oddSetOf, weightsOf}
-use Rattle.trimmer.specs.declared.Counts.{Counts}
 use Rattle.marked.proofs.Empty.{NothingToWrite, all-none, nothing-counted}
 use Rattle.marked.specs.Cases.{AllClaimed, Case, Claim, coefficients, dependent, leaves, oddSetWith, reads, refuses}
 use Rattle.marked.specs.Cases.{rowsWith, trims, weightsWith}

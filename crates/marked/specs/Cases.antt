@@ -15,9 +15,9 @@ use Rattle.moves.specs.CarryOut.{carryOut}
 use Rattle.moves.specs.Move.{Legal}
 use Rattle.phase.specs.Coefficients.{c, l, q}
 use Rattle.circuit.specs.declared.Reply.the-variants.{Refused}
+use Rattle.trimmed.specs.Trimmed.{Trimmed}
+use Rattle.trimmed.specs.declared.Counts.{Counts}
 use Rattle.trimmer.specs.Entry.{Writes-for, noCounts}
-use Rattle.trimmer.specs.Trimmed.{Trimmed}
-use Rattle.trimmer.specs.declared.Counts.{Counts}
 
 -- weight w at parity p
 pub data Entry : Type 0 where

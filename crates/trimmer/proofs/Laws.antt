@@ -13,10 +13,10 @@ use Rattle.circuit.specs.declared.Reply.{Reply}
 use Rattle.circuit.specs.declared.Reply.the-variants as reply
 use Rattle.synth.proofs.Laws.{rack-runs-wrote}
 use Rattle.synth.specs.Spelling.{RackRuns}
+use Rattle.trimmed.specs.Trimmed.{Trimmed}
+use Rattle.trimmed.specs.declared.Counts.{Counts}
 use Rattle.trimmer.proofs.TrimWays.{may-trim}
 use Rattle.trimmer.specs.Entry.{Done-with, TrimLeft, TrimList, Trimmable, countsOf, told, trimLent, verdict}
-use Rattle.trimmer.specs.Trimmed.{Trimmed}
-use Rattle.trimmer.specs.declared.Counts.{Counts}
 use Rattle.trimmer.specs.declared.TrimReply.{TrimReply}
 use Rattle.trimmer.specs.declared.TrimReply.the-variants.{Done, Refused}
 

@@ -1,4 +1,3 @@
-pub mod Whole
 pub mod Counted
 pub mod Making
 pub mod TrimWays

@@ -9,8 +9,8 @@ use Rattle.circuit.specs.Faults.{shortFault}
 use Rattle.circuit.specs.Limits.{logCells, writeBytes}
 use Rattle.circuit.specs.declared.Reply.{Reply}
 use Rattle.circuit.specs.declared.Reply.the-variants as reply
+use Rattle.trimmed.specs.declared.Counts.{Counts}
 use Rattle.trimmer.specs.Entry.{Done-with, TrimLeft, TrimList, Trimmable, noCounts, trimLent, verdict}
-use Rattle.trimmer.specs.declared.Counts.{Counts}
 use Rattle.trimmer.specs.declared.TrimReply.the-variants.{Done, Refused}
 
 module _ {n : ℕ} {g out log : List ℕ} {found : Reply} (judged : found ≡ verdict n g (length out) (length log)) where

@@ -11,8 +11,8 @@ use Rattle.circuit.specs.Read.{read, withWeights}
 use Rattle.circuit.specs.Replies.{numberOf}
 use Rattle.phase.specs.NewWeights.{newWeights}
 use Rattle.synth.specs.Entry.{Wrote}
-use Rattle.trimmer.specs.Trimmed.{Trimmed, oddSetOf, weightsOf}
-use Rattle.trimmer.specs.declared.Counts.{Counts}
+use Rattle.trimmed.specs.Trimmed.{Trimmed, oddSetOf, weightsOf}
+use Rattle.trimmed.specs.declared.Counts.{Counts}
 use Rattle.trimmer.specs.declared.TrimReply.{TrimReply}
 use Rattle.trimmer.specs.declared.TrimReply.the-variants.{Done, Refused}
 use Rattle.circuit.specs.declared.Reply.{Reply}

@@ -1,6 +1,6 @@
 // The trim: reads a circuit C, makes legal moves, each with the smallest z, until none is left, and writes the circuit D and the log of the
 // moves (document 01). Public entry: `trim`. Its promise is the record TrimList of specs/Entry; for an accepted circuit it is demand 3
-// whole and document 02's 2.7, the record Trimmed of specs/Trimmed.
+// whole and document 02's 2.7, the record Trimmed of trimmed/specs/Trimmed.
 
 ghost use Rattle.trimmer.specs.Entry.{Done-with, TrimList, Trimmable};
 
@@ -21,17 +21,8 @@ use moving::make_moves;
 use reader::reading::read_gates;
 use rests::weighing::put_new_weights;
 use synth::write_sound;
+use trimmed::Counts;
 use weights::put_odd_set;
-
-// The counts of a trim: T and T dagger gates of C, the size of its odd set, T and T dagger gates of D, the moves in the log, the gates
-// of D.
-pub struct Counts {
-    pub tin: usize,
-    pub odd: usize,
-    pub tout: usize,
-    pub moves: usize,
-    pub gates: usize,
-}
 
 pub enum TrimReply {
     Done(Counts),

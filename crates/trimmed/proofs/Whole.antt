@@ -26,8 +26,8 @@ use Rattle.moves.specs.Replay.{Replays, SmallestEach}
 use Rattle.phase.proofs.Laws.{new-weights-odd-set, new-weights-same-phases, odd-set-has-signature, odd-set-is-sound}
 use Rattle.phase.specs.NewWeights.{newWeights}
 use Rattle.phase.specs.Signature.{SameSignature}
-use Rattle.trimmer.specs.Trimmed.{Trimmed, oddSetOf, weightsOf}
-use Rattle.trimmer.specs.declared.Counts.{Counts}
+use Rattle.trimmed.specs.Trimmed.{Trimmed, oddSetOf, weightsOf}
+use Rattle.trimmed.specs.declared.Counts.{Counts}
 
 module _ (n : ℕ) (fit : n ≤ maxWires) (C : List Gate) (fC : AllWellFormed n C) (log : List ℕ) (k : ℕ) (marks : List ℕ)
     (replayed : Replays maxMembers n (oddSetOf n C) (logged moveCells log k) marks) where

@@ -14,7 +14,7 @@ use Rattle.moves.specs.Log.{logged}
 use Rattle.moves.specs.Move.{NoneLegal}
 use Rattle.moves.specs.Replay.{Replays, SmallestEach}
 use Rattle.phase.specs.NewWeights.{newWeights}
-use Rattle.trimmer.specs.declared.Counts.{Counts}
+use Rattle.trimmed.specs.declared.Counts.{Counts}
 
 -- the weights and the odd set of a list
 abbrev pub weightsOf : ℕ → List Gate → List ℕ
