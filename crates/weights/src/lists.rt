@@ -36,7 +36,7 @@ pub fn put_lists(
 }
 
 // One list: the coefficients of so many wires.
-pub fn put_list(n: usize, w: &[Weight], of: Degree, out: &mut [Coefficient])
+fn put_list(n: usize, w: &[Weight], of: Degree, out: &mut [Coefficient])
     requires { ⌜ (length (now w) ≤ parities) × (length (now out) ≡ sizeOf maxWires of) ⌝ }
     ensures { λ _. ⌜ now (out .exit) ≡ listOf maxWires n (now (w .entry)) of ⌝ }
 {
@@ -65,7 +65,7 @@ fn entry_at(n: usize, w: &[Weight], of: Degree, p: usize) -> Coefficient
     }
 }
 
-pub fn l_entry(n: usize, w: &[Weight], i: usize) -> Coefficient
+fn l_entry(n: usize, w: &[Weight], i: usize) -> Coefficient
     requires { ⌜ (length (now w) ≤ parities) × (i < maxWires) ⌝ }
     ensures { λ r. ⌜ r ≡ lEntry n (now (w .entry)) i ⌝ }
 {

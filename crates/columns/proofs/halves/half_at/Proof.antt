@@ -10,5 +10,8 @@ returns c =
     let s : tie.Start = search in
     s .pre .1 .1 (λ e. c .if1 .taken (e ∙ sym (u .unit .ensures)))
 
+returns-2 : tie.Need-returns-2
+returns-2 c = let h : tie.After-half-of = search in h .half-of .ensures
+
 pub half-at-spec : {M : Type 1} → statement M
-half-at-spec = tie.close (tie.spec (λ c κs. search needs) returns (λ c κs. search needs) (λ c. search needs))
+half-at-spec = tie.close (tie.spec (λ c κs. search needs) returns (λ c κs. search needs) returns-2)
