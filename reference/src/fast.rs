@@ -1,9 +1,10 @@
 //! The library's own trim once more, in Rust built for speed, as a measure for the proved one (`src/bin/benchmark.rs`).
 //!
-//! It is no other algorithm. The search ([`search`]) asks the same z in the same order and eliminates the same columns in
-//! the same slots; judging, reading, weighing and writing go the library's way too. A move is forty bytes from the start, and the
-//! outputs are lent, as the library has it. The rest is up to the compiler. The same trim also runs with another finder,
-//! given from outside.
+//! But for the new weights it is no other algorithm. The search ([`search`]) asks the same z in the same order and
+//! eliminates the same columns in the same slots; judging, reading and writing go the library's way too. The new weights
+//! come from one sum for each wire and each pair, where the library has superset sums. A move is forty bytes from the
+//! start, and the outputs are lent, as the library has it. The rest is up to the compiler. The same trim also runs with
+//! another finder, given from outside.
 
 pub mod search;
 

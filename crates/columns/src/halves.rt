@@ -30,6 +30,58 @@ pub struct Half {
     pub filled: u64,
 }
 
+// The half for z and its highest wire t: eliminated for the first z with this wire, and for the others as it was.
+pub fn half_at(
+    products: &[u64; PARITIES],
+    ys: &[Parity],
+    z: Parity,
+    t: usize,
+    most: usize,
+    half: Half,
+    vec: &mut [u64; PRODUCT_BITS],
+) -> Half
+    requires { ⌜ ProductTable (now products) ⌝ }
+    requires { ⌜ Below parities (now ys) × (t < maxWires) × (length (now vec) ≡ productBits) ⌝ }
+    requires { ⌜ (z ≢ 2 ^ t → HalfIn (now ys) t (half .apart) (half .filled) (now vec)) ⌝ }
+    ensures { λ r. ⌜ HalfIn (now (ys .entry)) t (r .apart) (r .filled) (now (vec .exit)) ⌝ }
+{
+    if z != unit(t) {
+        return half;
+    }
+    half_of(products, ys, t, most, vec)
+}
+
+// How many turns there are: two for each member; or none, where z is no xor of two, or all columns are apart.
+pub fn to_ask(
+    products: &[u64; PARITIES],
+    marks: &[Mark],
+    ys: &[Parity],
+    z: Parity,
+    t: usize,
+    half: Half,
+    vec: &mut [u64; PRODUCT_BITS],
+) -> usize
+    requires { ⌜ ProductTable (now products) ⌝ }
+    requires { ⌜ Members (now marks) (now ys) ⌝ }
+    requires { ⌜ (t < maxWires) × (z < parities) × (bit z t ≡ 1) ⌝ }
+    requires { ⌜ HalfIn (now ys) t (half .apart) (half .filled) (now vec) ⌝ }
+    ensures { λ r. ⌜ ToAsk (now (marks .entry)) (now (ys .entry)) z r
+        × (held (half .filled) (now (vec .exit)) ≡ held (half .filled) (now (vec .entry))) ⌝ }
+{
+    if !has_pair(marks, ys, z) {
+        return 0;
+    }
+    let apart = half.apart;
+    if !apart {
+        return 2 * ys.len();
+    }
+    let filled = half.filled;
+    if all_apart(products, marks, ys, z, t, filled, vec) {
+        return 0;
+    }
+    2 * ys.len()
+}
+
 // Eliminates the members without wire t. Where there are more than `most` members it looks at none: at most `most` columns can be apart, so
 // those of so many members seldom are.
 fn half_of(
@@ -71,25 +123,19 @@ fn half_of(
     }
 }
 
-// The half for z and its highest wire t: eliminated for the first z with this wire, and for the others as it was.
-pub fn half_at(
-    products: &[u64; PARITIES],
-    ys: &[Parity],
-    z: Parity,
-    t: usize,
-    most: usize,
-    half: Half,
-    vec: &mut [u64; PRODUCT_BITS],
-) -> Half
-    requires { ⌜ ProductTable (now products) ⌝ }
-    requires { ⌜ Below parities (now ys) × (t < maxWires) × (length (now vec) ≡ productBits) ⌝ }
-    requires { ⌜ (z ≢ 2 ^ t → HalfIn (now ys) t (half .apart) (half .filled) (now vec)) ⌝ }
-    ensures { λ r. ⌜ HalfIn (now (ys .entry)) t (r .apart) (r .filled) (now (vec .exit)) ⌝ }
+// Whether z is the xor of two members.
+fn has_pair(marks: &[Mark], ys: &[Parity], z: Parity) -> bool
+    requires { ⌜ Members (now marks) (now ys) × (z < parities) ⌝ }
+    ensures { λ r. ⌜ Decides r (HasPair (now (marks .entry)) z) ⌝ }
 {
-    if z != unit(t) {
-        return half;
+    let mut i: usize = 0;
+    while i < ys.len() {
+        if mark_at(marks, cell_at(ys, i) ^ z) == 1 {
+            return true;
+        }
+        i += 1;
     }
-    half_of(products, ys, t, most, vec)
+    false
 }
 
 // True only where all columns for z are apart, so that no move with z is legal: those of the singles with wire t go in after the half
@@ -125,50 +171,4 @@ fn all_apart(
         }
     }
     true
-}
-
-// Whether z is the xor of two members.
-fn has_pair(marks: &[Mark], ys: &[Parity], z: Parity) -> bool
-    requires { ⌜ Members (now marks) (now ys) × (z < parities) ⌝ }
-    ensures { λ r. ⌜ Decides r (HasPair (now (marks .entry)) z) ⌝ }
-{
-    let mut i: usize = 0;
-    while i < ys.len() {
-        if mark_at(marks, cell_at(ys, i) ^ z) == 1 {
-            return true;
-        }
-        i += 1;
-    }
-    false
-}
-
-// How many turns there are: two for each member; or none, where z is no xor of two, or all columns are apart.
-pub fn to_ask(
-    products: &[u64; PARITIES],
-    marks: &[Mark],
-    ys: &[Parity],
-    z: Parity,
-    t: usize,
-    half: Half,
-    vec: &mut [u64; PRODUCT_BITS],
-) -> usize
-    requires { ⌜ ProductTable (now products) ⌝ }
-    requires { ⌜ Members (now marks) (now ys) ⌝ }
-    requires { ⌜ (t < maxWires) × (z < parities) × (bit z t ≡ 1) ⌝ }
-    requires { ⌜ HalfIn (now ys) t (half .apart) (half .filled) (now vec) ⌝ }
-    ensures { λ r. ⌜ ToAsk (now (marks .entry)) (now (ys .entry)) z r
-        × (held (half .filled) (now (vec .exit)) ≡ held (half .filled) (now (vec .entry))) ⌝ }
-{
-    if !has_pair(marks, ys, z) {
-        return 0;
-    }
-    let apart = half.apart;
-    if !apart {
-        return 2 * ys.len();
-    }
-    let filled = half.filled;
-    if all_apart(products, marks, ys, z, t, filled, vec) {
-        return 0;
-    }
-    2 * ys.len()
 }

@@ -1,5 +1,6 @@
 // Columns over the product table: one number for a number z and a parity y, the same for y ^ z. A set whose xor is 0 meets document 01's
-// conditions on triples of wires where its columns xor to 0. The finder and the check of a move share them. Internal: no entry for users.
+// conditions on triples of wires where its columns xor to 0. The finder and the check of a move share them. Beside them, for one z: whose
+// column has which turn (turns), and whether the columns depend on each other at all (halves). Internal: no entry for users.
 ghost use mathlib.Core.Path.{_≡_};
 ghost use Prim.Native.Nat.{_<_, _^_};
 ghost use Rattle.circuit.specs.Limits.{maxWires, parities, productBits};

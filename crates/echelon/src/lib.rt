@@ -49,7 +49,7 @@ fn reduce(vec: &[u64; PRODUCT_BITS], filled: u64, v: u64) -> Reduced
     Reduced::Dependent { used: used }
 }
 
-// The slot of its leading bit.
+// The leading bit of x, which is a slot. The finder takes the highest wire of z by it too.
 pub fn leading(x: u64) -> usize
     requires { ⌜ (x ≢ 0) × (x < 2 ^ productBits) ⌝ }
     ensures { λ r. ⌜ LeadingBit x r ⌝ }

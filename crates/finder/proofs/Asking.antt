@@ -4,7 +4,7 @@ use mathlib.Core.Bool.{Bool}
 use mathlib.Core.List.{List}
 use mathlib.Core.Logic.{_≢_, _⊎_, inl, inr}
 use mathlib.Core.Path.{_∙_, _≡_, ap, subst}
-use Prim.Native.Nat.{_*_, _+_, _<_, _^_, suc, ℕ}
+use Prim.Native.Nat.{_*_, _+_, _<_, _^_, _≤_, suc, ℕ}
 use native.Mathlib.Decide.{decLt, ℕ-discrete}
 use native.Mathlib.Nat.{le-refl}
 use native.Mathlib.Omega.{arith}
@@ -17,7 +17,7 @@ use Rattle.echelon.proofs.Slots.{opened-slots}
 use Rattle.echelon.specs.Slots.{LeadingBit, SlotMembers, Slots}
 use Rattle.gf2.proofs.Basis.{basis-had, basis-more, basis-none, basis-same, covers-tags}
 use Rattle.gf2.proofs.Held.{held-none}
-use Rattle.gf2.proofs.Leading.{bit-top}
+use Rattle.gf2.proofs.Leading.{bit-inside, bit-top}
 use Rattle.gf2.specs.Bit.{bit}
 use Rattle.gf2.specs.Echelon.{Basis, byMembers, held}
 use Rattle.moves.proofs.Finding.{found, passed}
@@ -145,22 +145,19 @@ z-passed {marks} {ys} {z} {t} {m} {filled} {vec} all t-lt z-t ask h Y legal = go
         (h .basis .covers) W (λ i l. rw e (had-all all (getD W i 0) (stand i l)))) Y legal
     go (inr never) = never Y legal
 
--- ---- all z with highest wire t
-
 -- ---- the highest wire of z
 
--- z is a parity, and t is its highest wire
-pub record HighestWire (t z : ℕ) : Type 0 where
+-- z is a parity, and t a wire that it names
+pub record NamesWire (t z : ℕ) : Type 0 where
   pub below : z < parities
   pub wire : t < maxWires
   pub names : bit z t ≡ 1
 
-pub highest-wire : {t z : ℕ} → z < parities → LeadingBit z t → HighestWire t z
-highest-wire {t} {z} l b = record { below = l; wire = wire (decLt t maxWires); names = bit-top t z (b .lo) (b .hi) }
-  where
-    wire : Dec (t < maxWires) → t < maxWires
-    wire (yes h) = h
-    wire (no h) = absurd (omega (arith, b .lo, pow-mono {i = maxWires} {j = t} (omega arith)))
+-- its highest wire is one
+pub highest-wire : {t z : ℕ} → z < parities → LeadingBit z t → NamesWire t z
+highest-wire {t} {z} l b =
+    let names : bit z t ≡ 1 = bit-top t z (b .lo) (b .hi) in
+    record { below = l; wire = bit-inside maxWires z t l names; names = names }
 
 -- the half that is known when z is asked: that of its highest wire, unless z is the first with it
 abbrev pub HalfFor : List ℕ → ℕ → Bool → ℕ → List ℕ → Type 0
@@ -175,7 +172,8 @@ half-for-this {z = z} {t = t} h b ne = h t (omega (arith, b .lo)) (b .hi)
 
 pub half-for-next : {ys : List ℕ} {z t : ℕ} {apart : Bool} {filled : ℕ} {vec : List ℕ} → LeadingBit z t → HalfIn ys t apart filled vec
     → HalfFor ys (z + 1) apart filled vec
-half-for-next {ys} {z} {t} {apart} {filled} {vec} b h s lo hi = subst (λ (w : ℕ). HalfIn ys w apart filled vec) (one-wire (ℕ-discrete t s)) h
+half-for-next {ys} {z} {t} {apart} {filled} {vec} b h s lo hi =
+    subst (λ (w : ℕ). HalfIn ys w apart filled vec) (one-wire (ℕ-discrete t s)) h
   where
     one-wire : Dec (t ≡ s) → t ≡ s
     one-wire (yes e) = e
@@ -184,3 +182,11 @@ half-for-next {ys} {z} {t} {apart} {filled} {vec} b h s lo hi = subst (λ (w : �
         go : Dec (t < s) → ⊥
         go (yes l) = omega (arith, b .hi, pow-mono {i = suc t} {j = s} (omega arith))
         go (no l) = omega (arith, b .lo, pow-mono {i = suc s} {j = t} (omega arith))
+
+-- every z below k was asked, and none of them has a legal move; k is next, with places for its slots
+pub record ScannedTo (marks ys : List ℕ) (k : ℕ) (apart : Bool) (filled : ℕ) (room vec by member : List ℕ) : Type 0 where
+  pub some : 1 ≤ k
+  pub none : NoneBelow maxMembers maxWires marks k
+  pub half : HalfFor ys k apart filled room
+  pub room-long : length room ≡ productBits
+  pub places : Places vec by member

@@ -1,4 +1,4 @@
--- The highest and the lowest bit of a number.
+-- The highest bit of a number that is set, the lowest, and the next from a bit on.
 use mathlib.Core.Logic.{_≢_}
 use mathlib.Core.Path.{_∙_, _≡_, ap, ap₂, refl, sym}
 use Prim.Native.Nat.{_%_, _*_, _+_, _-_, _/_, _<_, _^_, _≤_, suc, zero, ℕ}

@@ -12,13 +12,13 @@ use Rattle.gf2.proofs.Leading.{bit-top}
 use Rattle.gf2.proofs.Sum.{sum-double, sum-ext, sum-zero}
 use Rattle.gf2.specs.Bit.{bit}
 use Rattle.gf2.specs.Sum.{sum}
-use Rattle.gf2.specs.Superset.{above, covers, superset}
+use Rattle.gf2.specs.Superset.{above, namesAll, superset}
 
 -- ---- 2 ^ n added
 
 -- no bit below n changes
-bit-under : (n p i : ℕ) → i < n → bit (2 ^ n + p) i ≡ bit p i
-bit-under n p i h =
+bit-kept : (n p i : ℕ) → i < n → bit (2 ^ n + p) i ≡ bit p i
+bit-kept n p i h =
     let hi : ℕ = p / 2 ^ n in
     let lo : ℕ = p % 2 ^ n in
     let l : lo < 2 ^ n = mod-lt p (pow-pos n) in
@@ -42,63 +42,63 @@ with-bit (suc n) p i h l e = go (decLt p (2 ^ n)) (ℕ-discrete i n) (with-bit n
     go (no g) (no ne) ih =
         let r : ℕ = p - 2 ^ n in
         let f : 2 ^ n + r ≡ p = omega arith in
-        omega (arith, ih r i (omega arith) (omega arith) (sym (bit-under n r i (omega arith)) ∙ ap (λ (x : ℕ). bit x i) f ∙ e))
+        omega (arith, ih r i (omega arith) (omega arith) (sym (bit-kept n r i (omega arith)) ∙ ap (λ (x : ℕ). bit x i) f ∙ e))
 
--- ---- covers
+-- ---- naming all wires of another number
 
 -- a wire that m does not name asks nothing of r
-covers-free : (k m r : ℕ) → bit m k ≡ 0 → covers (suc k) m r ≡ covers k m r
-unfolding covers
-covers-free k m r e = rw (e, zero-mul (1 - bit r k)) (omega arith)
+names-all-free : (k m r : ℕ) → bit m k ≡ 0 → namesAll (suc k) m r ≡ namesAll k m r
+unfolding namesAll
+names-all-free k m r e = rw (e, zero-mul (1 - bit r k)) (omega arith)
 
 -- a wire that it names must be one of r
-covers-asks : (k m r : ℕ) → bit m k ≡ 1 → covers (suc k) m r ≡ covers k m r * bit r k
-unfolding covers
-covers-asks k m r e = rw (e, one-mul (1 - bit r k)) (ap (λ (t : ℕ). covers k m r * t) (twice (bit r k) (bit-lt r k)))
+names-all-asks : (k m r : ℕ) → bit m k ≡ 1 → namesAll (suc k) m r ≡ namesAll k m r * bit r k
+unfolding namesAll
+names-all-asks k m r e = rw (e, one-mul (1 - bit r k)) (ap (λ (t : ℕ). namesAll k m r * t) (twice (bit r k) (bit-lt r k)))
   where
     twice : (b : ℕ) → b < 2 → 1 - (1 - b) ≡ b
     twice b h = omega arith
 
 -- only the bits below k count
-covers-ext : (k m m′ r r′ : ℕ) → ((i : ℕ) → i < k → bit m i ≡ bit m′ i) → ((i : ℕ) → i < k → bit r i ≡ bit r′ i)
-    → covers k m r ≡ covers k m′ r′
-unfolding covers
-covers-ext zero m m′ r r′ e f = refl
-covers-ext (suc k) m m′ r r′ e f =
-    rw (covers-ext k m m′ r r′ (λ i l. e i (omega arith)) (λ i l. f i (omega arith)), e k (le-refl _), f k (le-refl _))
+names-all-ext : (k m m′ r r′ : ℕ) → ((i : ℕ) → i < k → bit m i ≡ bit m′ i) → ((i : ℕ) → i < k → bit r i ≡ bit r′ i)
+    → namesAll k m r ≡ namesAll k m′ r′
+unfolding namesAll
+names-all-ext zero m m′ r r′ e f = refl
+names-all-ext (suc k) m m′ r r′ e f =
+    rw (names-all-ext k m m′ r r′ (λ i l. e i (omega arith)) (λ i l. f i (omega arith)), e k (le-refl _), f k (le-refl _))
 
-covers-none : (n r : ℕ) → covers n 0 r ≡ 1
-unfolding covers
-covers-none zero r = refl
-covers-none (suc n) r = covers-free n 0 r (bit-of-zero n) ∙ covers-none n r
+names-all-none : (n r : ℕ) → namesAll n 0 r ≡ 1
+unfolding namesAll
+names-all-none zero r = refl
+names-all-none (suc n) r = names-all-free n 0 r (bit-of-zero n) ∙ names-all-none n r
 
 -- a wire above all of m
-covers-last : (k m r : ℕ) → m < 2 ^ k → covers (suc k) (m + 2 ^ k) r ≡ covers (suc k) m r * bit r k
-covers-last k m r l =
-    ap (λ (x : ℕ). covers (suc k) x r) (add-comm m (2 ^ k)) ∙ covers-asks k (2 ^ k + m) r (bit-added k m l)
+names-all-last : (k m r : ℕ) → m < 2 ^ k → namesAll (suc k) (m + 2 ^ k) r ≡ namesAll (suc k) m r * bit r k
+names-all-last k m r l =
+    ap (λ (x : ℕ). namesAll (suc k) x r) (add-comm m (2 ^ k)) ∙ names-all-asks k (2 ^ k + m) r (bit-added k m l)
     ∙ ap (λ (t : ℕ). t * bit r k)
-    (covers-ext k (2 ^ k + m) m r r (λ i h. bit-under k m i h) (λ i h. refl) ∙ sym (covers-free k m r (bit-high k m l)))
+    (names-all-ext k (2 ^ k + m) m r r (λ i h. bit-kept k m i h) (λ i h. refl) ∙ sym (names-all-free k m r (bit-high k m l)))
 
-pub covers-top : (n i m r : ℕ) → i < n → m < 2 ^ i → covers n (m + 2 ^ i) r ≡ covers n m r * bit r i
-covers-top zero i m r h l = absurd (omega arith)
-covers-top (suc k) i m r h l = go (ℕ-discrete k i) (λ g. covers-top k i m r g l)
+pub names-all-top : (n i m r : ℕ) → i < n → m < 2 ^ i → namesAll n (m + 2 ^ i) r ≡ namesAll n m r * bit r i
+names-all-top zero i m r h l = absurd (omega arith)
+names-all-top (suc k) i m r h l = go (ℕ-discrete k i) (λ g. names-all-top k i m r g l)
   where
-    go : Dec (k ≡ i) → (i < k → covers k (m + 2 ^ i) r ≡ covers k m r * bit r i)
-        → covers (suc k) (m + 2 ^ i) r ≡ covers (suc k) m r * bit r i
-    go (yes e) ih = rw (← e) (covers-last k m r (rw (← e) at l))
+    go : Dec (k ≡ i) → (i < k → namesAll k (m + 2 ^ i) r ≡ namesAll k m r * bit r i)
+        → namesAll (suc k) (m + 2 ^ i) r ≡ namesAll (suc k) m r * bit r i
+    go (yes e) ih = rw (← e) (names-all-last k m r (rw (← e) at l))
     go (no ne) ih =
         let g : i < k = omega arith in
         let s : m + 2 ^ i < 2 ^ k = omega (arith, pow-mono {i = suc i} {j = k} g) in
-        covers-free k (m + 2 ^ i) r (bit-high k (m + 2 ^ i) s) ∙ ih g
-        ∙ ap (λ (t : ℕ). t * bit r i) (sym (covers-free k m r (bit-high k m (omega arith))))
+        names-all-free k (m + 2 ^ i) r (bit-high k (m + 2 ^ i) s) ∙ ih g
+        ∙ ap (λ (t : ℕ). t * bit r i) (sym (names-all-free k m r (bit-high k m (omega arith))))
 
-covers-one : (n i r : ℕ) → i < n → covers n (2 ^ i) r ≡ bit r i
-covers-one n i r h =
-    ap (λ (x : ℕ). covers n x r) (sym (zero-add (2 ^ i))) ∙ covers-top n i 0 r h (pow-pos i)
-    ∙ ap (λ (t : ℕ). t * bit r i) (covers-none n r) ∙ one-mul (bit r i)
+names-all-one : (n i r : ℕ) → i < n → namesAll n (2 ^ i) r ≡ bit r i
+names-all-one n i r h =
+    ap (λ (x : ℕ). namesAll n x r) (sym (zero-add (2 ^ i))) ∙ names-all-top n i 0 r h (pow-pos i)
+    ∙ ap (λ (t : ℕ). t * bit r i) (names-all-none n r) ∙ one-mul (bit r i)
 
-covers-two : (n i j r : ℕ) → i < j → j < n → covers n (2 ^ i + 2 ^ j) r ≡ bit r i * bit r j
-covers-two n i j r h g = covers-top n j (2 ^ i) r g (pow-lt h) ∙ ap (λ (t : ℕ). t * bit r j) (covers-one n i r (omega arith))
+names-all-two : (n i j r : ℕ) → i < j → j < n → namesAll n (2 ^ i + 2 ^ j) r ≡ bit r i * bit r j
+names-all-two n i j r h g = names-all-top n j (2 ^ i) r g (pow-lt h) ∙ ap (λ (t : ℕ). t * bit r j) (names-all-one n i r (omega arith))
 
 -- ---- one wire more
 
@@ -127,7 +127,7 @@ module _ (n : ℕ) (f : ℕ → ℕ) where
   superset-shift zero p h = refl
   superset-shift (suc k) p h =
       rw (
-        bit-under n p k h,
+        bit-kept n p k h,
         add-assoc (2 ^ n) p (2 ^ k),
         superset-shift k p (omega arith),
         superset-shift k (p + 2 ^ k) (omega arith),
@@ -144,12 +144,12 @@ module _ (n : ℕ) (f : ℕ → ℕ) where
   above-without m h =
       omega (
         arith,
-        sum-double n (λ r. f r * covers (suc n) m r),
-        sum-ext (2 ^ n) (λ r. f r * covers (suc n) m r) (λ r. f r * covers n m r)
-            (λ r l. ap (λ (t : ℕ). f r * t) (covers-free n m r (bit-high n m h))),
-        sum-ext (2 ^ n) (λ r. f (2 ^ n + r) * covers (suc n) m (2 ^ n + r)) (λ r. f (2 ^ n + r) * covers n m r)
+        sum-double n (λ r. f r * namesAll (suc n) m r),
+        sum-ext (2 ^ n) (λ r. f r * namesAll (suc n) m r) (λ r. f r * namesAll n m r)
+            (λ r l. ap (λ (t : ℕ). f r * t) (names-all-free n m r (bit-high n m h))),
+        sum-ext (2 ^ n) (λ r. f (2 ^ n + r) * namesAll (suc n) m (2 ^ n + r)) (λ r. f (2 ^ n + r) * namesAll n m r)
             (λ r l. ap (λ (t : ℕ). f (2 ^ n + r) * t)
-            (covers-free n m (2 ^ n + r) (bit-high n m h) ∙ covers-ext n m m (2 ^ n + r) r (λ i g. refl) (λ i g. bit-under n r i g))),
+            (names-all-free n m (2 ^ n + r) (bit-high n m h) ∙ names-all-ext n m m (2 ^ n + r) r (λ i g. refl) (λ i g. bit-kept n r i g))),
       )
 
   above-with : (m : ℕ) → m < 2 ^ n → above (suc n) f (2 ^ n + m) ≡ above n upper m
@@ -157,25 +157,25 @@ module _ (n : ℕ) (f : ℕ → ℕ) where
   above-with m h =
       omega (
         arith,
-        sum-double n (λ r. f r * covers (suc n) (2 ^ n + m) r),
-        sum-ext (2 ^ n) (λ r. f r * covers (suc n) (2 ^ n + m) r) (λ r. 0) (λ r l. lower r l),
+        sum-double n (λ r. f r * namesAll (suc n) (2 ^ n + m) r),
+        sum-ext (2 ^ n) (λ r. f r * namesAll (suc n) (2 ^ n + m) r) (λ r. 0) (λ r l. lower r l),
         sum-zero (2 ^ n),
-        sum-ext (2 ^ n) (λ r. f (2 ^ n + r) * covers (suc n) (2 ^ n + m) (2 ^ n + r)) (λ r. f (2 ^ n + r) * covers n m r)
+        sum-ext (2 ^ n) (λ r. f (2 ^ n + r) * namesAll (suc n) (2 ^ n + m) (2 ^ n + r)) (λ r. f (2 ^ n + r) * namesAll n m r)
             (λ r l. ap (λ (t : ℕ). f (2 ^ n + r) * t) (higher r l)),
       )
     where
-      lower : (r : ℕ) → r < 2 ^ n → f r * covers (suc n) (2 ^ n + m) r ≡ 0
-      lower r l = rw (covers-asks n (2 ^ n + m) r (bit-added n m h), bit-high n r l) (omega arith)
+      lower : (r : ℕ) → r < 2 ^ n → f r * namesAll (suc n) (2 ^ n + m) r ≡ 0
+      lower r l = rw (names-all-asks n (2 ^ n + m) r (bit-added n m h), bit-high n r l) (omega arith)
 
-      higher : (r : ℕ) → r < 2 ^ n → covers (suc n) (2 ^ n + m) (2 ^ n + r) ≡ covers n m r
+      higher : (r : ℕ) → r < 2 ^ n → namesAll (suc n) (2 ^ n + m) (2 ^ n + r) ≡ namesAll n m r
       higher r l =
-          let low = covers-ext n (2 ^ n + m) m (2 ^ n + r) r (λ i g. bit-under n m i g) (λ i g. bit-under n r i g) in
-          covers-asks n (2 ^ n + m) (2 ^ n + r) (bit-added n m h) ∙ rw (bit-added n r l, low) (omega arith)
+          let low = names-all-ext n (2 ^ n + m) m (2 ^ n + r) r (λ i g. bit-kept n m i g) (λ i g. bit-kept n r i g) in
+          names-all-asks n (2 ^ n + m) (2 ^ n + r) (bit-added n m h) ∙ rw (bit-added n r l, low) (omega arith)
 
 -- ---- all wires
 
 pub superset-above : (n : ℕ) (f : ℕ → ℕ) (m : ℕ) → m < 2 ^ n → superset n f m ≡ above n f m
-unfolding superset above covers sum
+unfolding superset above namesAll sum
 superset-above zero f m h = let e : m ≡ 0 = omega arith in rw e (omega arith)
 superset-above (suc n) f m h = go (decLt m (2 ^ n)) (superset-above n)
   where
@@ -194,11 +194,11 @@ module _ (n : ℕ) (f : ℕ → ℕ) where
   unfolding above
   superset-one i h =
       superset-above n f (2 ^ i) (pow-lt h)
-      ∙ sum-ext (2 ^ n) (λ r. f r * covers n (2 ^ i) r) (λ r. f r * bit r i) (λ r l. ap (λ (t : ℕ). f r * t) (covers-one n i r h))
+      ∙ sum-ext (2 ^ n) (λ r. f r * namesAll n (2 ^ i) r) (λ r. f r * bit r i) (λ r l. ap (λ (t : ℕ). f r * t) (names-all-one n i r h))
 
   pub superset-two : (i j : ℕ) → i < j → j < n → superset n f (2 ^ i + 2 ^ j) ≡ sum (2 ^ n) (λ r. f r * (bit r i * bit r j))
   unfolding above
   superset-two i j h g =
       superset-above n f (2 ^ i + 2 ^ j) (omega (arith, pow-lt h, pow-mono {i = suc j} {j = n} g))
-      ∙ sum-ext (2 ^ n) (λ r. f r * covers n (2 ^ i + 2 ^ j) r) (λ r. f r * (bit r i * bit r j))
-      (λ r l. ap (λ (t : ℕ). f r * t) (covers-two n i j r h g))
+      ∙ sum-ext (2 ^ n) (λ r. f r * namesAll n (2 ^ i + 2 ^ j) r) (λ r. f r * (bit r i * bit r j))
+      (λ r l. ap (λ (t : ℕ). f r * t) (names-all-two n i j r h g))

@@ -6,7 +6,7 @@ use Prim.Native.Nat.{_%_, _/_, _<_, _^_, _≤_, ℕ}
 unfoldable pub bit : ℕ → ℕ → ℕ
 bit p i = (p / 2 ^ i) % 2
 
--- r is the first bit from s on that is set in m; where none is, r is no bit of N
+-- of N bits, r is the first from s on that is set in m; where none is, r is N or more
 pub record NextBit (N m s r : ℕ) : Type 0 where
   pub from : s ≤ r
   pub passed : (j : ℕ) → s ≤ j → j < r → bit m j ≡ 0

@@ -57,7 +57,7 @@ pub record FewBelow (end : ℕ) (set : List ℕ) : Type 0 where
 abbrev pub listedCells : ℕ → List ℕ → List ℕ
 listedCells z set = asCells maxMembers z (listed parities (λ p. getD set p 0))
 
--- it has one, y, and the cells are those of the move with the mended set
+-- the set of m and a has one of a pair, y, and the cells are those of the move with that set mended
 pub record MoveOf (marks : List ℕ) (z a m : ℕ) (member cells : List ℕ) : Type 0 where
   pub y : ℕ
   pub pair : PairIn marks z (setWith a m member) y

@@ -42,6 +42,7 @@ pub fn write_move(
     }
     let mut set = [0 as Mark; TABLE_BYTES];
     let named = name_set(m, a, member, &mut set);
+    // members of slots differ from each other and from a, so that one is found; no contract says that they do, and none is answered too
     let at = pair_at(marks, z, a, m, member, &set);
     if at >= TABLE_BYTES {
         return Sought::Nothing;

@@ -15,7 +15,7 @@ use Rattle.phase.specs.Coefficients.{l, q}
 unfoldable pub pairRest : List ℕ → List ℕ → ℕ → ℕ → ℕ
 pairRest w u i j = 3 * ((q w i j + 3 * q u i j) % 4)
 
--- 1 where j is another wire than i, else 0
+-- 1 where j is another than i, else 0
 abbrev pub apart : ℕ → ℕ → ℕ
 apart i j = 1 - delta i j
 

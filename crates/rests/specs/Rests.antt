@@ -34,12 +34,12 @@ mostRest = 3 * 3
 
 -- ---- what the code takes
 
--- sums for n wires
+-- room for the sums of n wires
 pub record SumsFit (n : ℕ) (s : List ℕ) : Type 0 where
   pub few : n ≤ maxWires
   pub long : length s ≡ 2 ^ n
 
--- and a parity of one of them
+-- and the parity p of one of these wires
 pub record OneWire (n : ℕ) (s : List ℕ) (p : ℕ) : Type 0 where
   pub fits : SumsFit n s
   pub inside : p < 2 ^ n

@@ -1,6 +1,6 @@
 // The new weights (document 01, "The new weights"): the marks, with the rests of wires and of pairs added. The rests are found by the
-// weights less the marks, summed for each parity over those that name all its wires: the sum of one wire is l, that of two is minus q,
-// modulo 8 and 4 those of the weights less those of the marks.
+// weights less the marks, summed for each parity over those that name all its wires. At one wire that is l of the weights less l of the
+// marks, modulo 8; at two wires it is minus the same of q, modulo 4.
 ghost use mathlib.Core.Logic.{_≢_};
 ghost use mathlib.Core.Path.{_≡_};
 ghost use Prim.Native.Nat.{_%_, _+_, _*_, _<_, _≤_, _^_};
@@ -28,7 +28,7 @@ pub fn put_new_weights(n: usize, w: &[Weight], u: &[Mark], out: &mut [Weight])
     put_by_sums(n, w, u, &mut s[..1 << n], out);
 }
 
-// Sound marks are 0 from 2^n up, as the new weights are.
+// The sums are made in s; then the rests by them are added to the marks, which are 0 from 2^n up, as the new weights are.
 fn put_by_sums(n: usize, w: &[Weight], u: &[Mark], s: &mut [Weight], out: &mut [Weight])
     requires { ⌜ SoundWeights parities n (now w) × SoundMarks parities n (now u) × SumsFit n (now s) × (length (now out) ≡ tableBytes) ⌝ }
     ensures { λ _. ⌜ now (out .exit) ≡ newWeights parities n (now (w .entry)) (now (u .entry)) ⌝ }
@@ -118,7 +118,7 @@ fn pair_with(s: &[Weight], p: usize, q: usize) -> u32
     pair_rest(s[p + q])
 }
 
-// By the sum of two wires: 6 where q of weights and marks differs by 2, 0 where it is the same.
+// By the sum of two wires: 6 where q of weights and marks differs by 2, 0 where it is the same (equal signatures leave no other case).
 fn pair_rest(x: Weight) -> u32
     ensures { λ r. ⌜ (r ≡ pairBy x) × (r ≤ mostRest) ⌝ }
 {

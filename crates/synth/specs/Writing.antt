@@ -14,10 +14,6 @@ use Rattle.synth.specs.Spelling.{spell}
 
 -- ---- the weights
 
--- a test of the code, as the bit that it tests
-abbrev pub bitOf : Bool → ℕ
-bitOf c = either c 1 0
-
 -- a CNOT from wire i into wire t, if the bit is set
 unfoldable pub cnotIf : ℕ → ℕ → ℕ → List Gate
 cnotIf zero i t = []
@@ -47,6 +43,10 @@ writePhases N n w zero = []
 writePhases N n w (suc k) = writePhases N n w k ++ writeParity N n k (weight w k)
 
 -- ---- the rows: mask i names the wires whose parities make row i; the gates bring mask i to 2 ^ i, in turn
+
+-- a test of the code, as the bit that it tests
+abbrev pub bitOf : Bool → ℕ
+bitOf c = either c 1 0
 
 -- the masks after CNOTs into wire t from the wires of q
 unfoldable pub recount : ℕ → ℕ → List ℕ → List ℕ

@@ -1,6 +1,6 @@
 -- Making moves: each one is written to the log and carried out on the marks; what holds after k of them.
 use mathlib.Core.List.{List}
-use mathlib.Core.Path.{ap, ap₂, subst, sym, _∙_, _≡_}
+use mathlib.Core.Path.{ap, ap₂, _∙_, _≡_}
 use Prim.Native.Nat.{_*_, _+_, _-_, _<_, suc, ℕ, _≤_}
 use native.Mathlib.Numerals.{add-one}
 use native.Mathlib.Omega.{arith}
@@ -14,7 +14,7 @@ use Rattle.circuit.specs.Sound.{SoundMarks}
 use Rattle.circuit.specs.TableFaults.{Marked}
 use Rattle.finder.specs.Search.{Searched}
 use Rattle.gf2.proofs.Sum.{sum-const, sum-front, sum-le}
-use Rattle.moves.proofs.Laws.{limits-suffice, move-leaves-sound, move-shrinks}
+use Rattle.moves.proofs.Laws.{limits-suffice, move-shrinks}
 use Rattle.moves.proofs.Logs.{cells-length, cells-say, logged-length, logged-more}
 use Rattle.moves.proofs.Replaying.{replays-more, replays-none, replays-shrinks, replays-sound, smallest-more, smallest-none}
 use Rattle.moves.specs.CarryOut.{carryOut}
@@ -37,19 +37,6 @@ pub made-none : (n : ℕ) (m log : List ℕ) (k : ℕ) → k ≡ 0 → Made n m 
 unfolding logged
 made-none n m log k e =
     rw e (record { replayed = replays-none maxMembers n m; smallest = smallest-none maxMembers n m; kept = kept-all log })
-
--- the marks after a legal move are sound
-pub moved-sound : {n : ℕ} {marks cells marks′ : List ℕ} → Marked n marks → LegalCells maxMembers n marks cells
-    → marks′ ≡ carryOut marks (zOf cells) (setOf cells) → Marked n marks′
-moved-sound {n} {marks} {cells} {marks′} m f e =
-    let t = cells-say maxMembers (f .z) (f .Y) cells (f .is) in
-    record {
-      some = m .some;
-      few = m .few;
-      sound =
-          subst (λ (x : List ℕ). SoundMarks parities n x) (sym (e ∙ ap₂ (carryOut marks) (t .0) (t .1)))
-          (move-leaves-sound parities n maxMembers (limits-suffice n (m .few) .0) marks (m .sound) (f .z) (f .Y) (f .legal));
-    }
 
 -- fewer members than marks: parity 0 is none
 members-lt : (size n : ℕ) (marks : List ℕ) → 0 < size → SoundMarks size n marks → memberCount marks < size

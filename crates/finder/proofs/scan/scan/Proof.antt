@@ -9,13 +9,12 @@ use lib.Pow.{pow-mono}
 use borrow.Author.Needs.{needs}
 use denote.Ref.{now}
 use Rattle.circuit.proofs.Steps.{shifted}
-use Rattle.circuit.specs.Limits.{maxMembers, maxWires, parities, productBits}
+use Rattle.circuit.specs.Limits.{maxMembers, maxWires, parities}
 use Rattle.moves.proofs.Smallest.{none-below-more, none-below-one}
-use Rattle.moves.specs.Move.{NoneBelow}
 use Rattle.moves.specs.declared.Sought.the-variants.{Nothing}
 use Rattle.echelon.proofs.Masks.{masked-long}
 use Rattle.columns.proofs.Apart.{half-kept}
-use Rattle.finder.proofs.Asking.{AskedBefore, HalfFor, HighestWire, Places, asked-next, asked-start, highest-wire, no-members}
+use Rattle.finder.proofs.Asking.{AskedBefore, NamesWire, ScannedTo, asked-next, asked-start, highest-wire, no-members}
 use Rattle.finder.proofs.Asking.{half-for-next, half-for-one, half-for-this}
 use Rattle.finder.proofs.Asking.{offered-smallest, slot-places, z-passed}
 use Rattle.columns.proofs.InTurn.{members-below, turn-below}
@@ -31,8 +30,7 @@ abbrev μ-loop : tie.MeasureT-loop
 
 abbrev Inv-search : tie.InvT-search
 Inv-search n products marks ys cells₀ most room₀ half₀ vec₀ by₀ member₀ best₀ k₀ k-end cells room half vec by member best k =
-    (best ≡ Nothing) × (cells ≡ cells₀) × (1 ≤ k) × Places vec by member × NoneBelow maxMembers maxWires marks k
-    × HalfFor ys k (half .apart) (half .filled) room × (length room ≡ productBits)
+    (best ≡ Nothing) × (cells ≡ cells₀) × ScannedTo marks ys k (half .apart) (half .filled) room vec by member
 
 abbrev μ-search : tie.MeasureT-search
 μ-search n products marks ys cells₀ most room₀ half₀ vec₀ by₀ member₀ best₀ k₀ k-end cells room half vec by member best k = k-end - k
@@ -66,11 +64,13 @@ search-holds c =
     let s : Entry = search in (
       refl,
       refl,
-      omega arith,
-      record { vec-long = refl; by-long = refl; members = no-members },
-      none-below-one maxMembers maxWires (now (s .args .marks)),
-      half-for-one,
-      refl,
+      record {
+        some = omega arith;
+        none = none-below-one maxMembers maxWires (now (s .args .marks));
+        half = half-for-one;
+        room-long = refl;
+        places = record { vec-long = refl; by-long = refl; members = no-members };
+      },
     )
 
 abbrev entry : Outer → Entry
@@ -99,7 +99,7 @@ cast-z c = record { fits = omega (arith, inside c) }
 leading-requires : tie.Need-leading-requires Inv-loop μ-loop Inv-search μ-search
 leading-requires c κs =
     let u : Turning = search in
-    (λ e. omega (arith, head u .search .inv .2), omega (arith, inside u))
+    (λ e. omega (arith, head u .search .inv .2 .some), omega (arith, inside u))
 
 -- its highest wire is found
 abbrev Led : Type 0
@@ -108,7 +108,7 @@ Led = tie.After-leading Inv-loop μ-loop Inv-search μ-search
 abbrev turning : Led → Turning
 turning l = search
 
-wire : (l : Led) → HighestWire (l .leading .result) (head (turning l) .search .k)
+wire : (l : Led) → NamesWire (l .leading .result) (head (turning l) .search .k)
 wire l = highest-wire (inside (turning l)) (l .leading .ensures)
 
 half-at-requires : tie.Need-half-at-requires Inv-loop μ-loop Inv-search μ-search
@@ -117,7 +117,10 @@ half-at-requires c κs =
     let up : Outer = search in
     let s : Entry = search in (
       s .pre .0,
-      ((members-below (s .pre .1 .0 .0), wire l .wire, up .search .inv .6), half-for-this (up .search .inv .5) (l .leading .ensures)),
+      (
+        (members-below (s .pre .1 .0 .0), wire l .wire, up .search .inv .2 .room-long),
+        half-for-this (up .search .inv .2 .half) (l .leading .ensures),
+      ),
     )
 
 to-ask-requires : tie.Need-to-ask-requires Inv-loop μ-loop Inv-search μ-search
@@ -128,7 +131,7 @@ to-ask-requires c κs =
     (s .pre .0, (s .pre .1 .0 .0, ((wire l .wire, wire l .below, wire l .names), h .half-at .ensures)))
 
 loop-holds : tie.Need-loop-holds Inv-loop μ-loop Inv-search μ-search
-loop-holds c = let up : Outer = search in (up .search .inv .0, refl, omega arith, asked-start (up .search .inv .3))
+loop-holds c = let up : Outer = search in (up .search .inv .0, refl, omega arith, asked-start (up .search .inv .2 .places))
 
 turn-requires : tie.Need-turn-requires Inv-loop μ-loop Inv-search μ-search
 turn-requires c κs =
@@ -187,12 +190,15 @@ search-again c =
     let half = half-kept (h .half-at .ensures) (ask .to-ask .ensures .1) in (
       at .loop .inv .0,
       at .loop .inv .1 ∙ up .search .inv .1,
-      omega (arith, up .search .inv .2),
-      slot-places (at .loop .inv .3 .slots),
-      none-below-more maxMembers maxWires _ (up .search .inv .4)
-          (z-passed (s .pre .1 .0 .0) (wire l .wire) (wire l .names) (ask .to-ask .ensures .0) (rw e at (at .loop .inv .3))),
-      half-for-next (l .leading .ensures) half,
-      masked-long (half .masked),
+      record {
+        some = omega (arith, up .search .inv .2 .some);
+        none =
+            none-below-more maxMembers maxWires _ (up .search .inv .2 .none)
+            (z-passed (s .pre .1 .0 .0) (wire l .wire) (wire l .names) (ask .to-ask .ensures .0) (rw e at (at .loop .inv .3)));
+        half = half-for-next (l .leading .ensures) half;
+        room-long = masked-long (half .masked);
+        places = slot-places (at .loop .inv .3 .slots);
+      },
     )
 
 same-length : tie.Need-same-length Inv-loop μ-loop Inv-search μ-search
@@ -202,7 +208,7 @@ returns : tie.Need-returns Inv-loop μ-loop Inv-search μ-search
 returns c =
     let up : Outer = search in
     let s : Entry = search in
-    rw (up .search .inv .0) (up .search .inv .1, λ z Y l. omega (arith, end-is s, up .search .inv .4 z Y l))
+    rw (up .search .inv .0) (up .search .inv .1, λ z Y l. omega (arith, end-is s, up .search .inv .2 .none z Y l))
 
 same-length-2 : tie.Need-same-length-2 Inv-loop μ-loop Inv-search μ-search
 same-length-2 c =
@@ -221,7 +227,7 @@ returns-2 c =
     let up : Outer = search in
     let s = entry up in
     offered-smallest (s .pre .1 .0 .0) (at .loop .inv .3) (a .turn .ensures) refl (v .column .ensures .0) (wire l .wire)
-    (wire l .below) (wire l .names) (up .search .inv .4) (rw (c .enum-told .given .1) at (o .offer .ensures))
+    (wire l .below) (wire l .names) (up .search .inv .2 .none) (rw (c .enum-told .given .1) at (o .offer .ensures))
 
 pub scan-spec : {M : Type 1} → statement M
 scan-spec =
