@@ -21,9 +21,9 @@ use Rattle.circuit.specs.declared.Reply.{Reply}
 use Rattle.circuit.specs.declared.Reply.the-variants as reply
 use Rattle.circuit.specs.declared.gates.Kind.{Kind}
 use Rattle.circuit.specs.declared.gates.Kind.the-variants.{Cnot, Phase, Unknown}
-use Rattle.synth.proofs.Laws.{rack-runs-wrote}
-use Rattle.synth.proofs.WriteWays.{longest}
-use Rattle.synth.specs.Spelling.{RackRuns}
+use Rattle.written.proofs.Laws.{rack-runs-wrote}
+use Rattle.written.proofs.Checks.{longest}
+use Rattle.written.specs.Spelling.{RackRuns}
 use Rattle.text.proofs.ReadsWritten.{bytes-more, reads-written}
 use Rattle.text.proofs.TextLaws.{circuit-reads-back, first-bytes-decide, refused-line-long, reply-fits}
 use Rattle.text.proofs.WrittenReads.{AllBytes, AreBytes}

@@ -21,7 +21,7 @@ use Rattle.text.proofs.TextLaws.{CircuitRead, done-reads, with-room}
 use Rattle.text.proofs.TextWays.{replyOf, reply-is}
 use Rattle.text.specs.Entry.{ReadText}
 use Rattle.text.specs.Limits.{replyBytes}
-use Rattle.text.specs.Placed.{Writes}
+use Rattle.lines.specs.Placed.{Writes}
 use Rattle.text.specs.Text.{Sayable, Text, circuit, faulty, readText}
 use Rattle.text.specs.Written.{refusedLine}
 use Rattle.text.specs.declared.TextReply.{TextReply}

@@ -11,7 +11,7 @@ use Rattle.circuit.specs.Replies.{numberOf}
 use Rattle.circuit.specs.declared.Reply.{Reply}
 use Rattle.circuit.specs.declared.Reply.the-variants as reply
 use Rattle.text.specs.Limits.{replyBytes}
-use Rattle.text.specs.Placed.{Writes}
+use Rattle.lines.specs.Placed.{Writes}
 use Rattle.text.specs.Text.{Text, readText}
 
 -- ---- the reply

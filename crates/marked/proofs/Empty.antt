@@ -18,8 +18,8 @@ use Rattle.gf2.proofs.Sum.{delta-same, sum-ext, sum-zero}
 use Rattle.moves.specs.Log.{logged}
 use Rattle.moves.specs.Replay.{Replays}
 use Rattle.phase.specs.NewWeights.{newWeights}
-use Rattle.synth.proofs.Spelled.{occurs-none}
-use Rattle.synth.specs.Spelling.{gatesOfKind, occurs, spelledGates, spelling}
+use Rattle.written.proofs.Spelled.{occurs-none}
+use Rattle.written.specs.Spelling.{gatesOfKind, occurs, spelledGates, spelling}
 use Rattle.trimmed.specs.Trimmed.{Trimmed, oddSetOf, weightsOf}
 use Rattle.trimmed.specs.declared.Counts.{Counts}
 use Rattle.trimmer.specs.Entry.{Writes-for, noCounts}

@@ -4,7 +4,7 @@ use Prim.Native.Nat.{_%_, _/_, _<_, _^_, suc, zero, ℕ}
 use native.Mathlib.Omega.{arith}
 use lib.Dec.{eqb}
 use Rattle.gf2.specs.Bit.{bit}
-use Rattle.synth.specs.Writing.{bitOf}
+use Rattle.synth.specs.Storing.{bitOf}
 
 told : (c : ℕ) → c < 2 → bitOf (eqb c 1) ≡ c
 told zero l = refl

@@ -1,5 +1,2 @@
-pub mod Spelling
-pub mod Faults
 pub mod Entry
-pub mod Writing
 pub mod Storing

@@ -1,4 +1,5 @@
 -- Gates stored in lent bytes, one after the other: what the functions behind the entry require and promise.
+use mathlib.Core.Bool.{Bool}
 use mathlib.Core.List.{List, [], _∷_}
 use mathlib.Core.Path.{_≡_}
 use Prim.Native.Nat.{_*_, _+_, _<_, _^_, _≤_, ℕ}
@@ -6,8 +7,9 @@ use lib.ListN.{getD, length}
 use lib.Seq.{sets}
 use Rattle.circuit.specs.Gate.{Gate, bytesOf}
 use Rattle.circuit.specs.Limits.{gateBytes, maxWires, parities}
+use Rattle.circuit.specs.Read.{either}
 use Rattle.circuit.specs.Sound.{SoundRows, SoundWeights}
-use Rattle.synth.specs.Writing.{lack, nextMasks, surplus, writeParity, writePhases, writeRows}
+use Rattle.written.specs.Writing.{lack, nextMasks, surplus, writeParity, writePhases, writeRows}
 use Rattle.synth.specs.declared.masks.Step.{Step}
 use Rattle.synth.specs.declared.spelling.Kinds.{Kinds}
 use Rattle.synth.specs.declared.spelling.Kinds.the-variants.{Nothing, One, Two}
@@ -50,6 +52,10 @@ pub record RowsReady (g : List ℕ) (k n : ℕ) (rows : List ℕ) : Type 0 where
   pub few : n ≤ maxWires
   pub sound : SoundRows maxWires n rows
   pub room : Room g k (writeRows n rows)
+
+-- a test of the code, as the bit that it tests
+abbrev pub bitOf : Bool → ℕ
+bitOf c = either c 1 0
 
 -- the row of wire r with pivot b, from these masks: what the CNOTs go by, and the masks after them
 pub record Stepped (r b : ℕ) (masks : List ℕ) (s : Step) : Type 0 where

@@ -2,7 +2,7 @@
 ghost use mathlib.Core.Path.{_≡_};
 ghost use Prim.Native.Nat.{_-_, _^_, _≤_};
 ghost use Rattle.circuit.specs.Limits.{maxWires, rowCells};
-ghost use Rattle.synth.specs.Faults.{Shaped, rowMost, beyondFault, cancelFault, rowsFault, writeFault};
+ghost use Rattle.written.specs.Faults.{Shaped, rowMost, beyondFault, cancelFault, rowsFault, writeFault};
 use crate::masks::copied;
 use crate::masks::pivot_of;
 use crate::masks::row_step;

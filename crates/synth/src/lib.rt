@@ -2,7 +2,7 @@
 // Public entry: `write`. Its promise is the record WriteList of specs/Entry; proofs/Laws says what the promise means.
 ghost use lib.ListN.{length};
 ghost use Rattle.synth.specs.Entry.{WriteList, WroteBytes};
-ghost use Rattle.synth.specs.Faults.{Writable};
+ghost use Rattle.written.specs.Faults.{Writable};
 
 pub mod faults;
 pub mod masks;

@@ -3,7 +3,7 @@
 ghost use Prim.Native.Nat.{_^_};
 ghost use Rattle.circuit.specs.Limits.{maxWires};
 ghost use Rattle.synth.specs.Storing.{ParityReady, PhasesReady, Stored};
-ghost use Rattle.synth.specs.Writing.{writeParity, writePhases};
+ghost use Rattle.written.specs.Writing.{writeParity, writePhases};
 use crate::spelling::spell_out;
 use crate::storing::push_cnots;
 use circuit::limits::Parity;

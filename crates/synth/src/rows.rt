@@ -1,6 +1,6 @@
 // Writing the rows. Internal: the caller has found no fault.
 ghost use Rattle.synth.specs.Storing.{RowsReady, Stored};
-ghost use Rattle.synth.specs.Writing.{writeRows};
+ghost use Rattle.written.specs.Writing.{writeRows};
 use crate::masks::pivot_of;
 use crate::masks::row_step;
 use crate::storing::push_cnots;

@@ -3,7 +3,7 @@ ghost use mathlib.Core.List.{[], _∷_};
 ghost use mathlib.Core.Path.{_≡_};
 ghost use Prim.Native.Nat.{_<_};
 ghost use Rattle.circuit.specs.Gate.{gate};
-ghost use Rattle.synth.specs.Spelling.{spell, spelling};
+ghost use Rattle.written.specs.Spelling.{spell, spelling};
 ghost use Rattle.synth.specs.Storing.{Room, Stored, kindsOf};
 use crate::storing::push;
 use circuit::gates::S;

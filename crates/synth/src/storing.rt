@@ -5,7 +5,7 @@ ghost use Prim.Native.Nat.{_≤_};
 ghost use Rattle.circuit.specs.Gate.{gate};
 ghost use Rattle.circuit.specs.Limits.{maxWires};
 ghost use Rattle.synth.specs.Storing.{Room, Stored};
-ghost use Rattle.synth.specs.Writing.{cnots};
+ghost use Rattle.written.specs.Writing.{cnots};
 use circuit::gates::CNOT;
 use circuit::limits::GATE_BYTES;
 use circuit::limits::Parity;

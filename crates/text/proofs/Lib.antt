@@ -4,7 +4,6 @@ pub mod TextFaults
 pub mod Storing
 pub mod TextWays
 pub mod Deciding
-pub mod Writing
 pub mod WrittenReads
 pub mod ReadsWritten
 pub mod TextLaws

@@ -16,14 +16,15 @@ use Rattle.moves.specs.Log.{logged}
 use Rattle.moves.specs.Replay.{Replays, SmallestEach}
 use Rattle.phase.proofs.Laws.{new-weights-sound, odd-set-is-sound}
 use Rattle.phase.specs.NewWeights.{newWeights}
-use Rattle.synth.specs.Entry.{Wrote, WroteBytes}
-use Rattle.synth.specs.Faults.{Writable}
+use Rattle.written.specs.Wrote.{Wrote}
+use Rattle.synth.specs.Entry.{WroteBytes}
+use Rattle.written.specs.Faults.{Writable}
 use Rattle.trimmed.proofs.Whole.{whole}
 use Rattle.trimmed.specs.Trimmed.{Trimmed, oddSetOf, weightsOf}
 use Rattle.trimmed.specs.declared.Counts.{Counts}
-use Rattle.trimmer.proofs.Making.{Turn, still-marked}
+use Rattle.moving.proofs.Making.{Turn, still-marked}
 use Rattle.trimmer.specs.Entry.{Done-with, Trimmable, Writes-for}
-use Rattle.trimmer.specs.Steps.{AllMade}
+use Rattle.moving.specs.Steps.{AllMade}
 
 -- C is read: its weights and rows
 pub record ReadC (n : ℕ) (bytes out log w rows : List ℕ) : Type 0 where

@@ -11,8 +11,8 @@ use Rattle.circuit.specs.Limits.{logCells, writeBytes}
 use Rattle.circuit.specs.Replies.{numberOf}
 use Rattle.circuit.specs.declared.Reply.{Reply}
 use Rattle.circuit.specs.declared.Reply.the-variants as reply
-use Rattle.synth.proofs.Laws.{rack-runs-wrote}
-use Rattle.synth.specs.Spelling.{RackRuns}
+use Rattle.written.proofs.Laws.{rack-runs-wrote}
+use Rattle.written.specs.Spelling.{RackRuns}
 use Rattle.trimmed.specs.Trimmed.{Trimmed}
 use Rattle.trimmed.specs.declared.Counts.{Counts}
 use Rattle.trimmer.proofs.TrimWays.{may-trim}

@@ -1,5 +1,4 @@
 pub mod Counted
-pub mod Making
 pub mod TrimWays
 pub mod Finish
 pub mod Laws

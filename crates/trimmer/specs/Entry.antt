@@ -10,7 +10,7 @@ use Rattle.circuit.specs.Limits.{gateBytes, logCells, maxWires, moveCells, pari
 use Rattle.circuit.specs.Read.{read, withWeights}
 use Rattle.circuit.specs.Replies.{numberOf}
 use Rattle.phase.specs.NewWeights.{newWeights}
-use Rattle.synth.specs.Entry.{Wrote}
+use Rattle.written.specs.Wrote.{Wrote}
 use Rattle.trimmed.specs.Trimmed.{Trimmed, oddSetOf, weightsOf}
 use Rattle.trimmed.specs.declared.Counts.{Counts}
 use Rattle.trimmer.specs.declared.TrimReply.{TrimReply}

@@ -6,7 +6,6 @@ ghost use Rattle.trimmer.specs.Entry.{Done-with, TrimList, Trimmable};
 
 pub mod counting;
 pub mod faults;
-pub mod moving;
 
 use circuit::Reply;
 use circuit::faults::list_reply;

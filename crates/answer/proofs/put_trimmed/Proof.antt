@@ -5,7 +5,7 @@ use borrow.Author.Needs.{needs}
 use Rattle.circuit.proofs.Bytes.{gates-in}
 use Rattle.circuit.specs.Gate.{gatesOf}
 use Rattle.text.proofs.TextLaws.{gate-lines-long}
-use Rattle.text.proofs.Writing.{writes-then}
+use Rattle.lines.proofs.Writing.{writes-then}
 use Rattle.answer.proofs.put_trimmed.Statement.{statement}
 use Rattle.answer.proofs.put_trimmed.Tie as tie
 

@@ -5,8 +5,8 @@ use native.Mathlib.Omega.{arith}
 use lib.ListN.{drop, length}
 use borrow.Author.Needs.{needs}
 use denote.Ref.{now}
-use Rattle.synth.proofs.RowRule.{row-bad, row-end, row-good}
-use Rattle.synth.specs.Faults.{beyondFault}
+use Rattle.written.proofs.RowRule.{row-bad, row-end, row-good}
+use Rattle.written.specs.Faults.{beyondFault}
 use Rattle.synth.proofs.faults.beyond_fault.Statement.{statement}
 use Rattle.synth.proofs.faults.beyond_fault.Tie as tie
 

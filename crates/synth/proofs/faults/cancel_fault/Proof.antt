@@ -7,10 +7,10 @@ use lib.ListN.{length}
 use borrow.Author.Needs.{needs}
 use Rattle.circuit.specs.Limits.{maxWires}
 use Rattle.circuit.specs.Read.{firstRows}
-use Rattle.synth.proofs.MaskSteps.{Going, going-start}
-use Rattle.synth.proofs.RowRule.{dependent-fault, independent-clear}
+use Rattle.written.proofs.MaskSteps.{Going, going-start}
+use Rattle.written.proofs.RowRule.{dependent-fault, independent-clear}
 use Rattle.synth.proofs.RowTurns.{going-more}
-use Rattle.synth.proofs.RowsWritten.{going-ends, going-stops}
+use Rattle.written.proofs.RowsWritten.{going-ends, going-stops}
 use Rattle.synth.proofs.faults.cancel_fault.Statement.{statement}
 use Rattle.synth.proofs.faults.cancel_fault.Tie as tie
 

@@ -6,7 +6,7 @@ use lib.Pow.{pow-pos}
 use borrow.Author.Needs.{needs}
 use Rattle.circuit.proofs.Steps.{shifted}
 use Rattle.synth.proofs.PhaseTurns.{parities-fit}
-use Rattle.synth.proofs.RowRule.{most-beyond, most-inside}
+use Rattle.written.proofs.RowRule.{most-beyond, most-inside}
 use Rattle.synth.proofs.faults.row_most.Statement.{statement}
 use Rattle.synth.proofs.faults.row_most.Tie as tie
 

@@ -5,8 +5,8 @@ use native.Mathlib.Omega.{arith}
 use borrow.Author.Needs.{needs}
 use denote.Ref.{now}
 use Rattle.circuit.specs.Limits.{rowCells}
-use Rattle.synth.proofs.RowRule.{other-length, rows-beyond, rows-cancel, shaped}
-use Rattle.synth.specs.Faults.{Shaped, cancelFault}
+use Rattle.written.proofs.RowRule.{other-length, rows-beyond, rows-cancel, shaped}
+use Rattle.written.specs.Faults.{Shaped, cancelFault}
 use Rattle.synth.proofs.faults.rows_fault.Statement.{statement}
 use Rattle.synth.proofs.faults.rows_fault.Tie as tie
 

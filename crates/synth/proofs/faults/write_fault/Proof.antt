@@ -3,7 +3,7 @@ use mathlib.Core.Path.{_∙_}
 use native.Mathlib.Omega.{arith}
 use borrow.Author.Needs.{needs}
 use denote.Ref.{now}
-use Rattle.synth.proofs.WriteWays.{call-refuses, rows-decide, wires-few}
+use Rattle.written.proofs.Checks.{call-refuses, rows-decide, wires-few}
 use Rattle.synth.proofs.faults.write_fault.Statement.{statement}
 use Rattle.synth.proofs.faults.write_fault.Tie as tie
 

@@ -4,7 +4,7 @@ use Prim.Native.Nat.{_-_, _≤_}
 use native.Mathlib.Omega.{arith}
 use borrow.Author.Needs.{needs}
 use Rattle.synth.proofs.RowTurns.{pivot-end, pivot-here, pivot-later}
-use Rattle.synth.specs.Writing.{pivot, pivotFrom}
+use Rattle.written.specs.Writing.{pivot, pivotFrom}
 use Rattle.synth.proofs.masks.pivot_of.Statement.{statement}
 use Rattle.synth.proofs.masks.pivot_of.Tie as tie
 

@@ -3,7 +3,7 @@ use mathlib.Core.Path.{ap, _∙_, _≡_}
 use lib.ListN.{length}
 use borrow.Author.Needs.{needs}
 use Rattle.circuit.specs.Limits.{maxWires}
-use Rattle.synth.proofs.MaskSteps.{length-recount}
+use Rattle.written.proofs.MaskSteps.{length-recount}
 use Rattle.synth.proofs.RowTurns.{stepped}
 use Rattle.synth.proofs.masks.row_step.Statement.{statement}
 use Rattle.synth.proofs.masks.row_step.Tie as tie

@@ -8,7 +8,7 @@ use Rattle.circuit.specs.Limits.{maxWires, parities}
 use Rattle.synth.proofs.PhaseTurns.{parities-fit, parity-ready, phases-first, phases-turn}
 use Rattle.synth.proofs.Stores.{stored-same}
 use Rattle.synth.specs.Storing.{Stored}
-use Rattle.synth.specs.Writing.{writePhases}
+use Rattle.written.specs.Writing.{writePhases}
 use Rattle.synth.proofs.phases.write_phases.Statement.{statement}
 use Rattle.synth.proofs.phases.write_phases.Tie as tie
 

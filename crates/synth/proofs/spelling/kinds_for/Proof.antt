@@ -2,7 +2,7 @@
 use mathlib.Core.Path.{_≡_}
 use native.Mathlib.Omega.{arith}
 use Rattle.synth.proofs.PhaseTurns.{no-weight-left}
-use Rattle.synth.specs.Spelling.{spelling}
+use Rattle.written.specs.Spelling.{spelling}
 use Rattle.synth.proofs.spelling.kinds_for.Statement.{statement}
 use Rattle.synth.proofs.spelling.kinds_for.Tie as tie
 

@@ -7,7 +7,7 @@ use denote.Ref.{now}
 use Rattle.circuit.specs.Gate.{Gate}
 use Rattle.synth.proofs.PhaseTurns.{spell-none, spell-one, spell-two}
 use Rattle.synth.proofs.Stores.{stored-none}
-use Rattle.synth.specs.Spelling.{spell}
+use Rattle.written.specs.Spelling.{spell}
 use Rattle.synth.specs.Storing.{Room, Stored}
 use Rattle.synth.proofs.spelling.spell_out.Statement.{statement}
 use Rattle.synth.proofs.spelling.spell_out.Tie as tie

@@ -1,0 +1,14 @@
+pub mod Lists
+pub mod Cnots
+pub mod Spelled
+pub mod KindCounts
+pub mod Pulses
+pub mod OneParity
+pub mod AllParities
+pub mod Pivots
+pub mod MaskSteps
+pub mod RowsWritten
+pub mod RowRule
+pub mod WriteBack
+pub mod Checks
+pub mod Laws
