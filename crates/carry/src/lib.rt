@@ -11,14 +11,14 @@ pub mod legality;
 use circuit::Reply;
 use circuit::cells::cell_at;
 use circuit::cells::part;
-use circuit::faults::BAD_MOVE;
-use circuit::faults::lent_fault;
 use circuit::limits::MOVE_CELLS;
 use circuit::limits::Mark;
 use circuit::limits::MoveCell;
 use circuit::limits::TABLE_BYTES;
-use circuit::table_faults::marks_call_fault;
 use flips::carry;
+use judges::faults::BAD_MOVE;
+use judges::faults::lent_fault;
+use judges::table_faults::marks_call_fault;
 use legality::is_move;
 use legality::set_of;
 

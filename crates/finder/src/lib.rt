@@ -13,14 +13,14 @@ pub mod members;
 pub mod scan;
 
 use circuit::cells::part;
-use circuit::faults::lent_fault;
 use circuit::limits::MOVE_CELLS;
 use circuit::limits::Mark;
 use circuit::limits::MoveCell;
 use circuit::limits::PARITIES;
 use circuit::limits::Parity;
-use circuit::table_faults::marks_call_fault;
 use columns::table::products;
+use judges::faults::lent_fault;
+use judges::table_faults::marks_call_fault;
 use members::gather;
 use moves::Sought;
 use scan::scan;

@@ -8,13 +8,13 @@ pub mod reading;
 use circuit::Reply;
 use circuit::copying::copy_bytes;
 use circuit::copying::copy_parities;
-use circuit::faults::lent_fault;
-use circuit::faults::list_reply;
-use circuit::faults::or_else;
 use circuit::limits::Parity;
 use circuit::limits::ROW_CELLS;
 use circuit::limits::TABLE_BYTES;
 use circuit::limits::Weight;
+use judges::faults::lent_fault;
+use judges::faults::list_reply;
+use judges::faults::or_else;
 use reading::read_gates;
 
 // Reads a list of gates into weights and rows. A refusal leaves both as they were.

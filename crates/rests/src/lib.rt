@@ -7,13 +7,13 @@ pub mod summing;
 pub mod weighing;
 
 use circuit::Reply;
-use circuit::faults::lent_fault;
-use circuit::faults::or_else;
 use circuit::limits::Mark;
 use circuit::limits::TABLE_BYTES;
 use circuit::limits::Weight;
-use circuit::table_faults::marks_fault;
-use circuit::table_faults::weights_call_fault;
+use judges::faults::lent_fault;
+use judges::faults::or_else;
+use judges::table_faults::marks_fault;
+use judges::table_faults::weights_call_fault;
 use weighing::put_new_weights;
 
 // The new weights for a circuit's weights and an odd set. A refusal leaves the output as it was.

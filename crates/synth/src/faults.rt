@@ -7,14 +7,14 @@ use crate::masks::copied;
 use crate::masks::pivot_of;
 use crate::masks::row_step;
 use circuit::cells::cell_at;
-use circuit::faults::ROW_RULE;
-use circuit::faults::short_fault;
 use circuit::limits::MAX_WIRES;
 use circuit::limits::Parity;
 use circuit::limits::ROW_CELLS;
 use circuit::limits::WRITE_BYTES;
 use circuit::limits::Weight;
-use circuit::table_faults::weights_call_fault;
+use judges::faults::ROW_RULE;
+use judges::faults::short_fault;
+use judges::table_faults::weights_call_fault;
 
 // The first fault of a call, by the length of the gates lent.
 pub fn write_fault(n: usize, weights: &[Weight], rows: &[Parity], gates: usize) -> u8

@@ -18,13 +18,13 @@ use crate::limits::GATE_LINE_BYTES;
 use crate::limits::WIRES_DIGITS;
 use crate::limits::WIRES_LINE_BYTES;
 use circuit::Reply;
-use circuit::faults::LIST_LENGTH;
-use circuit::faults::MALFORMED;
-use circuit::faults::short_fault;
-use circuit::faults::wires_fault;
 use circuit::limits::GATE_BYTES;
 use circuit::limits::MAX_GATES;
 use circuit::limits::MAX_LIST_BYTES;
+use judges::faults::LIST_LENGTH;
+use judges::faults::MALFORMED;
+use judges::faults::short_fault;
+use judges::faults::wires_fault;
 
 // The first fault of a call: 8 by the length of the gates lent, then that of the text.
 pub fn read_text_fault(text: &[u8], lent: usize) -> Reply

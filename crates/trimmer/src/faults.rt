@@ -1,10 +1,10 @@
 // The fault of what is lent to the trim.
 ghost use mathlib.Core.Path.{_≡_};
 ghost use Rattle.trimmer.specs.Entry.{trimLent};
-use circuit::faults::or_else;
-use circuit::faults::short_fault;
 use circuit::limits::LOG_CELLS;
 use circuit::limits::WRITE_BYTES;
+use judges::faults::or_else;
+use judges::faults::short_fault;
 
 // Fault 8, by the lengths of the gates and of the log lent.
 pub fn trim_lent(out: usize, log: usize) -> u8

@@ -8,7 +8,6 @@ pub mod counting;
 pub mod faults;
 
 use circuit::Reply;
-use circuit::faults::list_reply;
 use circuit::limits::Mark;
 use circuit::limits::MoveCell;
 use circuit::limits::TABLE_BYTES;
@@ -16,6 +15,7 @@ use circuit::limits::Weight;
 use counting::members_of;
 use counting::t_gates;
 use faults::trim_lent;
+use judges::faults::list_reply;
 use moving::make_moves;
 use reader::reading::read_gates;
 use rests::weighing::put_new_weights;

@@ -2,14 +2,14 @@
 // is none.
 ghost use mathlib.Core.Path.{_≡_};
 ghost use Rattle.weights.specs.Entry.{coefficientsFault, oddSetFault, listsFault};
-use circuit::faults::lent_fault;
-use circuit::faults::or_else;
 use circuit::limits::MAX_WIRES;
 use circuit::limits::PAIR_BYTES;
 use circuit::limits::TABLE_BYTES;
 use circuit::limits::TRIPLE_BYTES;
 use circuit::limits::Weight;
-use circuit::table_faults::weights_call_fault;
+use judges::faults::lent_fault;
+use judges::faults::or_else;
+use judges::table_faults::weights_call_fault;
 
 // The fault of a call of `odd_set`, by the weights and the length of the marks lent.
 pub fn odd_set_fault(n: usize, weights: &[Weight], marks: usize) -> u8
