@@ -1,7 +1,7 @@
 -- Writing the rows: one turn, and the end, of each loop of the code, and each way out of a test, over plain numbers and lists.
 use mathlib.Core.List.{_++_, List, [], append-assoc, append-nil}
 use mathlib.Core.Logic.{_≢_}
-use mathlib.Core.Path.{ap, subst, sym, _∙_, _≡_}
+use mathlib.Core.Path.{ap, refl, subst, sym, _∙_, _≡_}
 use Prim.Native.Nat.{_%_, _*_, _+_, _-_, _/_, _<_, _^_, suc, ℕ, _≤_}
 use native.Mathlib.Nat.{one-mul, sub-self, sub-zero, zero-mul}
 use native.Mathlib.Numerals.{add-one}
@@ -9,6 +9,7 @@ use native.Mathlib.Omega.{arith}
 use lib.Bits.{bitXor}
 use lib.Dec.{eqb}
 use lib.ListN.{getD, length, set}
+use lib.Seq.{getD-set-other}
 use Rattle.circuit.proofs.Filling.{put-filled, put-long}
 use Rattle.circuit.specs.Gate.{Gate}
 use Rattle.circuit.specs.Limits.{maxWires}
@@ -26,27 +27,29 @@ use Rattle.synth.specs.declared.masks.Step.{Step}
 
 -- ---- the masks
 
--- the first i masks are recounted
+-- the first i masks are recounted, the others are as they were
 pub record Recounted (t q : ℕ) (masks s : List ℕ) (i : ℕ) : Type 0 where
   pub inside : i ≤ maxWires
   pub long : length s ≡ maxWires
   pub filled : Filled s (recount t q masks) i
+  pub ahead : (k : ℕ) → i ≤ k → getD s k 0 ≡ getD masks k 0
 
 pub recount-first : {t q : ℕ} {masks : List ℕ} → length masks ≡ maxWires → Recounted t q masks masks 0
-recount-first long = record { inside = omega arith; long = long; filled = λ k h. absurd (omega arith) }
+recount-first long = record { inside = omega arith; long = long; filled = λ k h. absurd (omega arith); ahead = λ k h. refl }
 
 -- m is mask i, and x what the code adds to it
 pub recount-next : {t q : ℕ} {masks s s′ : List ℕ} {i m x : ℕ} → Recounted t q masks s i → i < maxWires
-    → m ≡ getD masks i 0 → x ≡ bitOf (eqb (m / 2 ^ t % 2) 1) * q → s′ ≡ set s i (bitXor m x) → Recounted t q masks s′ (i + 1)
+    → m ≡ getD s i 0 → x ≡ bitOf (eqb (m / 2 ^ t % 2) 1) * q → s′ ≡ set s i (bitXor m x) → Recounted t q masks s′ (i + 1)
 recount-next {t} {q} {masks} {s} {s′} {i} {m} {x} h l em ex es =
     record {
       inside = omega arith;
       long = put-long s s′ i (bitXor m x) es ∙ h .long;
       filled = put-filled s s′ i (bitXor m x) es (recount t q masks) (omega (arith, h .long)) (h .filled) entry;
+      ahead = λ k g. rw es (getD-set-other s i k (bitXor m x) 0 (omega arith)) ∙ h .ahead k (omega arith);
     }
   where
     entry : bitXor m x ≡ getD (recount t q masks) i 0
-    entry = rw (ex, bit-told m t, em) (sym (recount-at t q i masks))
+    entry = rw (ex, bit-told m t, em, h .ahead i (omega arith)) (sym (recount-at t q i masks))
 
 pub recount-last : {t q : ℕ} {masks s : List ℕ} {i : ℕ} → Recounted t q masks s i → length masks ≡ maxWires → maxWires ≤ i
     → s ≡ recount t q masks
@@ -86,16 +89,16 @@ lack-wire r m u eu h = let e : m / 2 ^ r % 2 ≡ 0 = omega arith in eu ∙ rw (e
 -- m is mask r, and f what it becomes; u is wire r's parity
 pub stepped : (masks full last : List ℕ) (r b m q f u : ℕ) → m ≡ getD masks r 0 → q ≡ lack r m → full ≡ recount b q masks
     → f ≡ getD full r 0 → u ≡ 2 ^ r → last ≡ recount r (bitXor f u) full
-    → Stepped r b masks (record { lack = q; surplus = bitXor f u; masks = last })
+    → Stepped r b masks last (record { lack = q; surplus = bitXor f u })
 stepped masks full last r b m q f u em eq ef e eu el =
     record { lacks = rw (eq, em); loses = rw (e, eu, ef, eq, em); leaves = rw (el, e, eu, ef, eq, em) }
 
 -- ---- one row more
 
 -- m is mask r, and b its pivot
-pub going-more : {n r m b : ℕ} {rows masks held : List ℕ} {s : Step} → Going maxWires n r rows masks held → r < n → n ≤ maxWires
-    → m ≡ getD masks r 0 → b ≡ pivot n r m → b < n → Stepped r b masks s
-    → Going maxWires n (r + 1) rows (s .masks) (heldAfter r b masks held)
+pub going-more : {n r m b : ℕ} {rows masks masks′ held : List ℕ} {s : Step} → Going maxWires n r rows masks held → r < n → n ≤ maxWires
+    → m ≡ getD masks r 0 → b ≡ pivot n r m → b < n → Stepped r b masks masks′ s
+    → Going maxWires n (r + 1) rows masks′ (heldAfter r b masks held)
 going-more {n} {r} {m} {b} h inside fit em eb l st = rw (add-one r, st .leaves) (going-next h inside fit b (eb ∙ ap (pivot n r) em) l)
 
 -- ---- writing the rows
@@ -135,13 +138,13 @@ module _ {n r : ℕ} {rows masks g g′ : List ℕ} {k j : ℕ} (ready : RowsRea
   pub pivot-inside : b < n
   pivot-inside = rw (eb, em) (sound-pivot (ready .sound) (l .going) inside)
 
-  module _ {s : Step} (st : Stepped r b masks s) where
+  module _ {masks′ : List ℕ} {s : Step} (st : Stepped r b masks masks′ s) where
     -- the gates of this row, and those after it
     abbrev here : List Gate
     here = cnots n (s .lack) b ++ cnots n (s .surplus) r
 
     abbrev later : List Gate
-    later = rowsFrom n (n - (r + 1)) (r + 1) (s .masks)
+    later = rowsFrom n (n - (r + 1)) (r + 1) masks′
 
     parts : rowsFrom n (n - r) r masks ≡ here ++ later
     unfolding rowsFrom
@@ -162,7 +165,7 @@ module _ {n r : ℕ} {rows masks g g′ : List ℕ} {k j : ℕ} (ready : RowsRea
       pub surplus-room : Room g₁ k₁ (cnots n (s .surplus) r)
       surplus-room = room-then a (cnots n (s .surplus) r) fits
 
-      pub rows-next : {g₂ : List ℕ} {k₂ : ℕ} → Stored g₁ g₂ k₁ k₂ (cnots n (s .surplus) r) → RowLoop n (r + 1) rows (s .masks) g g₂ k k₂
+      pub rows-next : {g₂ : List ℕ} {k₂ : ℕ} → Stored g₁ g₂ k₁ k₂ (cnots n (s .surplus) r) → RowLoop n (r + 1) rows masks′ g g₂ k k₂
       rows-next d =
           record {
             held = heldAfter r b masks (l .held);

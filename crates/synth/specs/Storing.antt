@@ -57,8 +57,8 @@ pub record RowsReady (g : List ℕ) (k n : ℕ) (rows : List ℕ) : Type 0 where
 abbrev pub bitOf : Bool → ℕ
 bitOf c = either c 1 0
 
--- the row of wire r with pivot b, from these masks: what the CNOTs go by, and the masks after them
-pub record Stepped (r b : ℕ) (masks : List ℕ) (s : Step) : Type 0 where
+-- the row of wire r with pivot b: what its CNOTs go by, from the masks before them, and the masks after them
+pub record Stepped (r b : ℕ) (masks masks′ : List ℕ) (s : Step) : Type 0 where
   pub lacks : s .lack ≡ lack r (getD masks r 0)
   pub loses : s .surplus ≡ surplus r b masks
-  pub leaves : s .masks ≡ nextMasks r b masks
+  pub leaves : masks′ ≡ nextMasks r b masks

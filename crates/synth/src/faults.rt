@@ -80,8 +80,7 @@ fn cancel_fault(n: usize, rows: [Parity; MAX_WIRES]) -> u8
         if b >= n {
             return ROW_RULE;
         }
-        let s = row_step(masks, r, b);
-        masks = s.masks;
+        row_step(&mut masks, r, b);
     }
     0
 }

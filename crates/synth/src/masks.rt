@@ -23,25 +23,24 @@ pub fn copied(rows: &[Parity]) -> [Parity; MAX_WIRES]
     masks
 }
 
-// One row: CNOTs from the wires of `lack` into the pivot, then from the wires of `surplus` into the row's wire; the masks after them.
+// One row: CNOTs from the wires of `lack` into the pivot, then from the wires of `surplus` into the row's wire.
 pub struct Step {
     pub lack: Parity,
     pub surplus: Parity,
-    pub masks: [Parity; MAX_WIRES],
 }
 
-// The row of wire r, with pivot b.
-pub fn row_step(masks: [Parity; MAX_WIRES], r: usize, b: usize) -> Step
-    requires { ⌜ (r < maxWires) × (b < maxWires) × (length masks ≡ maxWires) ⌝ }
-    ensures { λ s. ⌜ Stepped r b masks s ⌝ }
+// The row of wire r, with pivot b; the masks become those after its CNOTs.
+pub fn row_step(masks: &mut [Parity; MAX_WIRES], r: usize, b: usize) -> Step
+    requires { ⌜ (r < maxWires) × (b < maxWires) × (length (now masks) ≡ maxWires) ⌝ }
+    ensures { λ s. ⌜ Stepped r b (now (masks .entry)) (now (masks .exit)) s ⌝ }
 {
-    let q = lack_of(r, cell_at(&masks, r));
-    let full = recount_masks(masks, b, q);
-    let p = cell_at(&full, r) ^ unit(r);
+    let q = lack_of(r, cell_at(masks, r));
+    recount_masks(masks, b, q);
+    let p = cell_at(masks, r) ^ unit(r);
+    recount_masks(masks, r, p);
     Step {
         lack: q,
         surplus: p,
-        masks: recount_masks(full, r, p),
     }
 }
 
@@ -69,16 +68,14 @@ fn lack_of(r: usize, m: Parity) -> Parity
 }
 
 // The masks after CNOTs into wire t from the wires of q.
-fn recount_masks(masks: [Parity; MAX_WIRES], t: usize, q: Parity) -> [Parity; MAX_WIRES]
-    requires { ⌜ (t < maxWires) × (length masks ≡ maxWires) ⌝ }
-    ensures { λ r. ⌜ r ≡ recount t q masks ⌝ }
+fn recount_masks(masks: &mut [Parity; MAX_WIRES], t: usize, q: Parity)
+    requires { ⌜ (t < maxWires) × (length (now masks) ≡ maxWires) ⌝ }
+    ensures { λ _. ⌜ now (masks .exit) ≡ recount t q (now (masks .entry)) ⌝ }
 {
-    let mut s = masks;
     for i in 0..MAX_WIRES {
-        let m = cell_at(&masks, i);
-        put_cell(&mut s, i, m ^ only_if((m >> t) % 2 == 1, q));
+        let m = cell_at(masks, i);
+        put_cell(masks, i, m ^ only_if((m >> t) % 2 == 1, q));
     }
-    s
 }
 
 // q if the bit is set, else 0.

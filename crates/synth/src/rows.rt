@@ -17,10 +17,9 @@ pub fn write_rows(gates: &mut [u8], k: usize, n: usize, rows: [Parity; MAX_WIRES
     let mut j = k;
     for r in 0..n {
         let b = pivot_of(n, r, cell_at(&masks, r));
-        let s = row_step(masks, r, b);
+        let s = row_step(&mut masks, r, b);
         let filled = push_cnots(gates, j, n, s.lack, b as u8);
         j = push_cnots(gates, filled, n, s.surplus, r as u8);
-        masks = s.masks;
     }
     j
 }

@@ -1,4 +1,4 @@
--- The masks are recounted from the front.
+-- The masks are recounted from the front, where they lie.
 use Prim.Native.Nat.{_-_}
 use native.Mathlib.Omega.{arith}
 use borrow.Author.Needs.{needs}
@@ -8,13 +8,19 @@ use Rattle.synth.proofs.masks.recount_masks.Statement.{statement}
 use Rattle.synth.proofs.masks.recount_masks.Tie as tie
 
 abbrev Inv-loop : tie.InvT-loop
-Inv-loop t q masks s₀ i₀ s i = Recounted t q masks s i
+Inv-loop masks₀ t q i₀ masks i = Recounted t q masks₀ masks i
 
 abbrev μ-loop : tie.MeasureT-loop
-μ-loop t q masks s₀ i₀ s i = maxWires - i
+μ-loop masks₀ t q i₀ masks i = maxWires - i
 
 loop-holds : tie.Need-loop-holds Inv-loop μ-loop
 loop-holds c = let s : tie.Start Inv-loop μ-loop = search in recount-first (s .pre .1)
+
+cell-at-requires : tie.Need-cell-at-requires Inv-loop μ-loop
+cell-at-requires c κs = let at : tie.At-loop Inv-loop μ-loop = search in omega (arith, at .loop .inv .long)
+
+put-cell-requires : tie.Need-put-cell-requires Inv-loop μ-loop
+put-cell-requires c κs = let at : tie.At-loop Inv-loop μ-loop = search in omega (arith, at .loop .inv .long)
 
 loop-again : tie.Need-loop-again Inv-loop μ-loop
 loop-again c =
@@ -37,13 +43,11 @@ recount-masks-spec =
     Inv-loop
     μ-loop
     loop-holds
-    (λ c. search needs)
-    (λ c κs. search needs)
-    (λ c. search needs)
+    cell-at-requires
     (λ c. search needs)
     (λ c. search needs)
     (λ c κs. search needs)
-    (λ c κs. search needs)
+    put-cell-requires
     (λ c. search needs)
     (λ c. search needs)
     loop-again

@@ -1,18 +1,8 @@
 -- The mask of the row gets its wire, then loses the others.
-use mathlib.Core.Path.{ap, _∙_, _≡_}
-use lib.ListN.{length}
 use borrow.Author.Needs.{needs}
-use Rattle.circuit.specs.Limits.{maxWires}
-use Rattle.written.proofs.MaskSteps.{length-recount}
 use Rattle.synth.proofs.RowTurns.{stepped}
 use Rattle.synth.proofs.masks.row_step.Statement.{statement}
 use Rattle.synth.proofs.masks.row_step.Tie as tie
-
--- the masks stay as many
-full-long : (f : tie.After-recount-masks) → length (f .recount-masks .result) ≡ maxWires
-full-long f =
-    let s : tie.Start = search in
-    ap length (f .recount-masks .ensures) ∙ length-recount (s .args .b) _ _ ∙ s .pre .2
 
 returns : tie.Need-returns
 returns c =
@@ -29,12 +19,10 @@ pub row-step-spec : {M : Type 1} → statement M
 row-step-spec =
     tie.close
     (tie.spec
-    (λ c. search needs)
     (λ c κs. search needs)
     (λ c κs. search needs)
     (λ c κs. search needs)
-    (λ c. search needs)
-    (λ c κs. search (needs, full-long (search)))
     (λ c κs. search needs)
-    (λ c κs. search (needs, full-long (search)))
+    (λ c κs. search needs)
+    (λ c κs. search needs)
     returns)
