@@ -1,7 +1,7 @@
 -- One turn, and the end, of each loop of the reader, and each way out of its match, over plain numbers and lists.
 use mathlib.Core.List.{List, _∷_}
 use mathlib.Core.Path.{ap, refl, subst, sym, _∙_, _≡_}
-use Prim.Native.Nat.{_*_, _+_, _/_, _<_, _^_, ℕ, _≤_}
+use Prim.Native.Nat.{_%_, _*_, _+_, _/_, _<_, _^_, ℕ, _≤_}
 use native.Mathlib.Omega.{arith}
 use lib.Bits.{bitXor}
 use lib.ListN.{getD, length, set}
@@ -9,9 +9,10 @@ use lib.Pow.{pow-mono}
 use Rattle.gf2.proofs.Table.{getD-tabulate}
 use Rattle.gf2.specs.Table.{addAt}
 use Rattle.circuit.proofs.Bytes.{gates-step, gates-tail, gatesFrom}
+use Rattle.circuit.proofs.GateKinds.{t-is-odd, turnOf}
 use Rattle.circuit.proofs.Sound.{gate-keeps}
 use Rattle.circuit.specs.Faults.{AllWellFormed, KindWellFormed}
-use Rattle.circuit.specs.Gate.{Gate, byteGate, gate, kindOf}
+use Rattle.circuit.specs.Gate.{Gate, byteGate, gate, gatesOf, kindOf, tGates}
 use Rattle.circuit.specs.Limits.{gateBytes}
 use Rattle.circuit.specs.Read.{Reading, firstRow, firstRows, joinRows, readFrom, readKind, row, withRows, withWeights}
 use Rattle.circuit.specs.Sound.{SoundReading}
@@ -20,18 +21,23 @@ use Rattle.circuit.specs.declared.gates.Kind.the-variants.{Cnot, Phase, Unknown
 
 -- ---- reading the list, gate by gate
 
--- gate i is to be read next: the gates from i on are well formed, the reading so far is sound, and what is left of the list gives
--- the whole from it
-abbrev pub ReadTo : ℕ → ℕ → List ℕ → Reading → ℕ → Reading → Type 0
-ReadTo N n bytes whole i r = AllWellFormed n (gatesFrom bytes i) × SoundReading N n r × (readFrom (gatesFrom bytes i) r ≡ whole)
+-- t of the gates before gate i are T or T dagger: no more than i, and with those of the gates from i on as many as the list holds
+abbrev pub CountedTo : List ℕ → ℕ → ℕ → Type 0
+CountedTo bytes i t = (t ≤ i) × (t + tGates (gatesFrom bytes i) ≡ tGates (gatesOf bytes))
 
--- a turn at that gate, from the reading so far
-pub record Turn (N n : ℕ) (bytes : List ℕ) (whole : Reading) (at : ℕ) (r : Reading) : Type 0 where
+-- gate i is to be read next: the gates from i on are well formed, the reading so far is sound, what is left of the list gives the whole
+-- from it, and t are counted
+abbrev pub ReadTo : ℕ → ℕ → List ℕ → Reading → ℕ → Reading → ℕ → Type 0
+ReadTo N n bytes whole i r t =
+    AllWellFormed n (gatesFrom bytes i) × SoundReading N n r × (readFrom (gatesFrom bytes i) r ≡ whole) × CountedTo bytes i t
+
+-- a turn at that gate, from the reading and the count so far
+pub record Turn (N n : ℕ) (bytes : List ℕ) (whole : Reading) (at : ℕ) (r : Reading) (t : ℕ) : Type 0 where
   pub fit : n ≤ N
   pub inside : gateBytes * at + 2 < length bytes
-  pub to : ReadTo N n bytes whole at r
+  pub to : ReadTo N n bytes whole at r t
 
-module _ {N n : ℕ} {bytes : List ℕ} {whole : Reading} {at : ℕ} {r : Reading} (turn : Turn N n bytes whole at r) where
+module _ {N n : ℕ} {bytes : List ℕ} {whole : Reading} {at : ℕ} {r : Reading} {t : ℕ} (turn : Turn N n bytes whole at r t) where
   pub rows-long : length (r .rows) ≡ N
   rows-long = turn .to .1 .rows .long
 
@@ -40,7 +46,7 @@ module _ {N n : ℕ} {bytes : List ℕ} {whole : Reading} {at : ℕ} {r : Readin
   row-fits h = let m : 2 ^ n ≤ 2 ^ N = pow-mono (turn .fit) in omega (arith, turn .to .1 .rows .within h)
 
 -- and its gate
-module _ {N n : ℕ} {bytes : List ℕ} {whole : Reading} {at : ℕ} {r : Reading} (turn : Turn N n bytes whole at r)
+module _ {N n : ℕ} {bytes : List ℕ} {whole : Reading} {at : ℕ} {r : Reading} {t : ℕ} (turn : Turn N n bytes whole at r t)
     {kind a b : ℕ} (here : gate kind a b ≡ byteGate bytes at) where
   step : AllWellFormed n (gate kind a b ∷ gatesFrom bytes (at + 1))
   step =
@@ -52,45 +58,60 @@ module _ {N n : ℕ} {bytes : List ℕ} {whole : Reading} {at : ℕ} {r : Readin
     formed : KindWellFormed n k a b
     formed = subst (λ (k : Kind). KindWellFormed n k a b) (sym is) (step .0)
 
-    read-on : (next : Reading) → next ≡ readKind k a b r → ReadTo N n bytes whole (at + 1) next
+    t-next : tGates (gatesFrom bytes at) ≡ turnOf k % 2 + tGates (gatesFrom bytes (at + 1))
+    unfolding tGates
+    t-next =
+        ap tGates (gates-step bytes at (turn .inside) ∙ ap (λ (g : Gate). g ∷ gatesFrom bytes (at + 1)) (sym here))
+        ∙ ap (λ (odd : ℕ). odd + tGates (gatesFrom bytes (at + 1))) (t-is-odd kind ∙ ap (λ (k : Kind). turnOf k % 2) (sym is))
+
+    -- it is counted if the phase that it adds is odd
+    count-on : {t′ : ℕ} → t′ ≡ t + turnOf k % 2 → CountedTo bytes (at + 1) t′
+    count-on e = (omega (arith, turn .to .3 .0, e), omega (arith, turn .to .3 .1, e, t-next))
+
+    read-on : (next : Reading) {t′ : ℕ} → next ≡ readKind k a b r → t′ ≡ t + turnOf k % 2 → ReadTo N n bytes whole (at + 1) next t′
     unfolding readFrom
-    read-on next e =
+    read-on next e counted =
         rw (e, is) (
           step .1,
           gate-keeps N n (turn .fit) (gate kind a b) r (step .0) (turn .to .1),
           ap (λ (g : Gate). readFrom (g ∷ gatesFrom bytes (at + 1)) r) here
               ∙ sym (ap (λ (gs : List Gate). readFrom gs r) (gates-step bytes at (turn .inside))) ∙ turn .to .2,
+          count-on counted,
         )
 
   module _ (is : Cnot ≡ kindOf kind) where
     pub cnot-wires : (a < N) × (b < N)
     cnot-wires = let f = formed Cnot is in (omega (arith, f .0), omega (arith, f .1))
 
-    pub cnot-on : {rows′ : List ℕ} → rows′ ≡ joinRows a b (r .rows) → ReadTo N n bytes whole (at + 1) (withRows rows′ r)
+    pub cnot-on : {rows′ : List ℕ} → rows′ ≡ joinRows a b (r .rows) → ReadTo N n bytes whole (at + 1) (withRows rows′ r) t
     unfolding readKind
-    cnot-on {rows′} e = read-on Cnot is (withRows rows′ r) (rw e)
+    cnot-on {rows′} e = read-on Cnot is (withRows rows′ r) (rw e) (omega arith)
 
   module _ (v : ℕ) (is : Phase v ≡ kindOf kind) where
     pub phase-wire : a < N
     phase-wire = omega (arith, formed (Phase v) is .0)
 
     -- p is the parity that wire a holds
-    pub phase-on : {p : ℕ} {w′ : List ℕ} → p ≡ row r a → w′ ≡ addAt 8 (r .weights) p v → ReadTo N n bytes whole (at + 1) (withWeights w′ r)
+    pub phase-on : {p : ℕ} {w′ : List ℕ} {t′ : ℕ} → p ≡ row r a → w′ ≡ addAt 8 (r .weights) p v → t′ ≡ t + v % 2
+        → ReadTo N n bytes whole (at + 1) (withWeights w′ r) t′
     unfolding readKind
-    phase-on {p} {w′} d e = read-on (Phase v) is (withWeights w′ r) (rw (e, d))
+    phase-on {p} {w′} d e counted = read-on (Phase v) is (withWeights w′ r) (rw (e, d)) counted
 
-  pub unknown-on : Unknown ≡ kindOf kind → ReadTo N n bytes whole (at + 1) r
+  pub unknown-on : Unknown ≡ kindOf kind → ReadTo N n bytes whole (at + 1) r t
   unfolding readKind
-  unknown-on is = read-on Unknown is r refl
+  unknown-on is = read-on Unknown is r refl (omega arith)
 
 -- j is b and holds p, i is a and holds q: the code stores their xor
 pub rows-joined : (rows : List ℕ) {rows′ : List ℕ} {i j p q a b : ℕ} → i ≡ a → j ≡ b → p ≡ getD rows j 0 → q ≡ getD rows i 0
     → rows′ ≡ set rows j (bitXor p q) → rows′ ≡ joinRows a b rows
 rows-joined rows ei ej ep eq er = rw (er, ep, eq, ei, ej)
 
-pub reads-end : (bytes : List ℕ) (i : ℕ) (r : Reading) → i ≡ length bytes / gateBytes → r ≡ readFrom (gatesFrom bytes i) r
-unfolding readFrom
-reads-end bytes i r e = rw (gates-tail bytes i e)
+pub reads-end : (N n : ℕ) (bytes : List ℕ) (whole : Reading) (i : ℕ) (r : Reading) (t : ℕ) → i ≡ length bytes / gateBytes
+    → ReadTo N n bytes whole i r t → (r ≡ whole) × (t ≡ tGates (gatesOf bytes))
+unfolding readFrom tGates
+reads-end N n bytes whole i r t e to =
+    let none = gates-tail bytes i e in
+    (sym (ap (λ (gs : List Gate). readFrom gs r) none) ∙ to .2, omega (arith, to .3 .1, ap tGates none))
 
 -- ---- the first rows
 

@@ -4,6 +4,7 @@ use mathlib.Core.Path.{_≡_}
 use Prim.Native.Nat.{_<_, ℕ}
 use lib.ListN.{getD, length}
 use Rattle.circuit.specs.Faults.{Accepted, lentFault, listReply, orElse}
+use Rattle.circuit.specs.Gate.{gatesOf, tGates}
 use Rattle.circuit.specs.Lent.{readBytes, readingLent, rowsLent, weightsLent}
 use Rattle.circuit.specs.Limits.{maxWires, parities, rowCells, tableBytes}
 use Rattle.circuit.specs.Read.{Reading}
@@ -14,6 +15,13 @@ use Rattle.reader.specs.declared.reading.WeightsRows.{WeightsRows}
 -- the code's weights and rows are a reading
 abbrev pub readingOf : WeightsRows → Reading
 readingOf t = readingLent (t .weights) (t .rows)
+
+-- a list as the code has read it
+pub record ReadAll (n : ℕ) (bytes : List ℕ) (t : WeightsRows) : Type 0 where
+  -- its weights and rows
+  pub reads : readingOf t ≡ readBytes n bytes
+  -- how many T and T dagger gates it holds
+  pub t-gates : t .tcount ≡ tGates (gatesOf bytes)
 
 -- 8, by the lengths of the weights and the rows lent
 abbrev pub readLent : ℕ → ℕ → ℕ

@@ -1,13 +1,12 @@
-// Reading gates that have no fault into weights and rows (document 01, "Weights and rows").
+// Reading gates that have no fault into weights and rows (document 01, "Weights and rows"), their T and T dagger gates counted on the way.
 ghost use mathlib.Core.Path.{_≡_};
 ghost use Prim.Native.Nat.{_<_, _≤_};
 ghost use Rattle.circuit.specs.Limits.{maxWires};
 ghost use Rattle.circuit.specs.Gate.{gatesOf};
-ghost use Rattle.circuit.specs.Lent.{readBytes};
 ghost use Rattle.gf2.specs.Table.{addAt};
 ghost use Rattle.circuit.specs.Read.{firstRow, firstRows, joinRows};
 ghost use Rattle.circuit.specs.Faults.{AllWellFormed};
-ghost use Rattle.reader.specs.Entry.{Addable, Joinable, readingOf};
+ghost use Rattle.reader.specs.Entry.{Addable, Joinable, ReadAll};
 use circuit::cells::cell_at;
 use circuit::cells::put_cell;
 use circuit::gates::Kind;
@@ -21,19 +20,22 @@ use circuit::limits::Weight;
 use circuit::parity::index_of;
 use circuit::parity::unit;
 
-// The weights and rows of a list, as the code keeps them.
+// The weights, the rows and the number of T and T dagger gates of a list, as the code keeps them.
 pub struct WeightsRows {
     pub weights: [Weight; TABLE_BYTES],
     pub rows: [Parity; MAX_WIRES],
+    pub tcount: usize,
 }
 
-// The weights and rows of a list. Each gate changes them in place. Internal: the caller has found no fault.
+// The weights and rows of a list, and its T and T dagger gates: those that add an odd phase. Each gate changes them in place. Internal: the
+// caller has found no fault.
 pub fn read_gates(n: usize, gates: &[u8]) -> WeightsRows
     requires { ⌜ (n ≤ maxWires) × AllWellFormed n (gatesOf (now gates)) ⌝ }
-    ensures { λ r. ⌜ readingOf r ≡ readBytes n (now (gates .entry)) ⌝ }
+    ensures { λ r. ⌜ ReadAll n (now (gates .entry)) r ⌝ }
 {
     let mut weights = [0 as Weight; TABLE_BYTES];
     let mut rows = first_rows(n);
+    let mut tcount: usize = 0;
     let m = gates.len() / GATE_BYTES;
     let mut g: usize = 0;
     while g < m {
@@ -46,6 +48,7 @@ pub fn read_gates(n: usize, gates: &[u8]) -> WeightsRows
                 let i = wire_of(t.a);
                 let q = index_of(cell_at(&rows, i));
                 add_phase(&mut weights, q, v);
+                tcount += (v % 2) as usize;
             }
             Kind::Unknown => {}
         }
@@ -53,6 +56,7 @@ pub fn read_gates(n: usize, gates: &[u8]) -> WeightsRows
     WeightsRows {
         weights: weights,
         rows: rows,
+        tcount: tcount,
     }
 }
 

@@ -1,33 +1,17 @@
--- One turn, and the end, of the loops that count.
+-- One turn, and the end, of the loop that counts.
 use mathlib.Core.List.{List}
-use mathlib.Core.Logic.{_≢_}
 use mathlib.Core.Path.{_∙_, _≡_, ap, sym}
-use Prim.Native.Nat.{_*_, _+_, _/_, _<_, _^_, ℕ}
+use Prim.Native.Nat.{_+_, _^_, ℕ}
 use native.Mathlib.Numerals.{add-one}
-use lib.ListN.{getD, length}
-use Rattle.circuit.proofs.Bytes.{gates-step, gates-tail, gatesFrom}
+use lib.ListN.{getD}
 use Rattle.circuit.proofs.OddSet.{members-sum}
-use Rattle.circuit.specs.Gate.{T, T-dagger, isT, tGates}
-use Rattle.circuit.specs.Limits.{gateBytes, parities}
+use Rattle.circuit.specs.Limits.{parities}
 use Rattle.circuit.specs.OddSet.{memberCount}
 use Rattle.circuit.specs.TableFaults.{Marked}
 use Rattle.gf2.proofs.Pairing.{sum-stop}
-use Rattle.gf2.proofs.Sum.{delta-other, sum-suc}
+use Rattle.gf2.proofs.Sum.{sum-suc}
 use Rattle.gf2.specs.Sum.{sum}
 use Rattle.moves.proofs.Laws.{limits-suffice}
-
-pub t-next : (bytes : List ℕ) (i : ℕ) → gateBytes * i + 2 < length bytes
-    → tGates (gatesFrom bytes i) ≡ isT (getD bytes (gateBytes * i) 0) + tGates (gatesFrom bytes (i + 1))
-unfolding tGates
-t-next bytes i h = rw (gates-step bytes i h)
-
-pub t-end : (bytes : List ℕ) (i : ℕ) → i ≡ length bytes / gateBytes → tGates (gatesFrom bytes i) ≡ 0
-unfolding tGates
-t-end bytes i e = rw (gates-tail bytes i e)
-
-pub is-t-other : (kind : ℕ) → kind ≢ T → kind ≢ T-dagger → isT kind ≡ 0
-unfolding isT
-is-t-other kind a b = rw (delta-other T kind a, delta-other T-dagger kind b)
 
 -- the marks before p summed, and that of p
 pub members-next : (marks : List ℕ) (p : ℕ) {count : ℕ} → count ≡ sum p (λ p. getD marks p 0)

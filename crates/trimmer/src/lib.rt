@@ -13,7 +13,6 @@ use circuit::limits::MoveCell;
 use circuit::limits::TABLE_BYTES;
 use circuit::limits::Weight;
 use counting::members_of;
-use counting::t_gates;
 use faults::trim_lent;
 use judges::faults::list_reply;
 use moving::make_moves;
@@ -50,6 +49,7 @@ fn trim_accepted(n: usize, gates: &[u8], out: &mut [u8], log: &mut [MoveCell]) -
     let t = read_gates(n, gates);
     let w = t.weights;
     let rows = t.rows;
+    let tin = t.tcount;
     let mut marks = [0 as Mark; TABLE_BYTES];
     put_odd_set(&w, &mut marks);
     let odd = members_of(n, &marks);
@@ -58,7 +58,6 @@ fn trim_accepted(n: usize, gates: &[u8], out: &mut [u8], log: &mut [MoveCell]) -
     let mut new = [0 as Weight; TABLE_BYTES];
     put_new_weights(n, &w, &marks, &mut new);
     let count = write_sound(n, &new, &rows, out);
-    let tin = t_gates(gates);
     Counts {
         tin: tin,
         odd: odd,

@@ -11,13 +11,13 @@ copy-bytes-requires : tie.Need-copy-bytes-requires
 copy-bytes-requires c κs =
     let t : tie.After-read-gates = search in
     let s : tie.Start = search in
-    weights-fit (s .pre) (t .read-gates .ensures)
+    weights-fit (s .pre) (t .read-gates .ensures .reads)
 
 copy-parities-requires : tie.Need-copy-parities-requires
 copy-parities-requires c κs =
     let t : tie.After-read-gates = search in
     let s : tie.Start = search in
-    rows-fit (s .pre) (t .read-gates .ensures)
+    rows-fit (s .pre) (t .read-gates .ensures .reads)
 
 returns : tie.Need-returns
 returns c =
@@ -25,7 +25,7 @@ returns c =
     let w : tie.After-copy-bytes = search in
     let t : tie.After-read-gates = search in
     let s : tie.Start = search in
-    read-out (s .pre) (t .read-gates .ensures) (w .copy-bytes .ensures) (r .copy-parities .ensures)
+    read-out (s .pre) (t .read-gates .ensures .reads) (w .copy-bytes .ensures) (r .copy-parities .ensures)
 
 pub put-reading-spec : {M : Type 1} → statement M
 put-reading-spec =

@@ -13,7 +13,7 @@ entry t = search
 is-read : (t : tie.After-read-gates) →
     ReadC (entry t .args .n) (now (entry t .args .gates)) (now (entry t .args .out)) (now (entry t .args .log))
     (t .read-gates .result .weights) (t .read-gates .result .rows)
-is-read t = record { trimmable = entry t .pre; reads = t .read-gates .ensures }
+is-read t = record { trimmable = entry t .pre; reads = t .read-gates .ensures .reads }
 
 read-gates-requires : tie.Need-read-gates-requires
 read-gates-requires c κs = let s : tie.Start = search in (s .pre .accepted .few, s .pre .accepted .formed)
@@ -59,19 +59,19 @@ write-sound-requires c κs =
 
 returns : tie.Need-returns
 returns c =
-    let g : tie.After-t-gates = search in
     let d : tie.After-write-sound = search in
     let v : tie.After-put-new-weights = search in
     let last : tie.After-members-of2 = search in
     let m : tie.After-make-moves = search in
     let first : tie.After-members-of = search in
     let o : tie.After-put-odd-set = search in
+    let t : tie.After-read-gates = search in
     finish
     (record {
-      moved = record { marked = record { read = is-read (search); odd = o .put-odd-set .ensures }; all = m .make-moves .ensures };
+      moved = record { marked = record { read = is-read t; odd = o .put-odd-set .ensures }; all = m .make-moves .ensures };
       new-is = v .put-new-weights .ensures;
     })
-    (d .write-sound .ensures) _ (g .t-gates .ensures) (first .members-of .ensures) (last .members-of2 .ensures) refl refl
+    (d .write-sound .ensures) _ (t .read-gates .ensures .t-gates) (first .members-of .ensures) (last .members-of2 .ensures) refl refl
 
 pub trim-accepted-spec : {M : Type 1} → statement M
 trim-accepted-spec =
@@ -92,7 +92,6 @@ trim-accepted-spec =
     (λ c. search needs)
     slice-aggregate-write-sound-2
     write-sound-requires
-    (λ c κs. search needs)
     (λ c. search needs)
     (λ c. search needs)
     returns)

@@ -1,4 +1,4 @@
--- Reading the gates from gate g on, from the reading so far, gives the reading of the list.
+-- Reading the gates from gate g on, from the reading and the count so far, gives the reading and the T gates of the list.
 use mathlib.Core.Path.{ap, subst, sym, _∙_, _≡_}
 use Prim.Native.Nat.{_-_, _/_, _≤_}
 use native.Mathlib.Omega.{arith}
@@ -17,11 +17,11 @@ use Rattle.reader.proofs.reading.read_gates.Statement.{statement}
 use Rattle.reader.proofs.reading.read_gates.Tie as tie
 
 abbrev Inv-loop : tie.InvT-loop
-Inv-loop n gates weights₀ rows₀ m g₀ weights rows g =
-    (g ≤ m) × (m ≡ length gates / gateBytes) × ReadTo maxWires n gates (readBytes n gates) g (readingLent weights rows)
+Inv-loop n gates weights₀ rows₀ tcount₀ m g₀ weights rows tcount g =
+    (g ≤ m) × (m ≡ length gates / gateBytes) × ReadTo maxWires n gates (readBytes n gates) g (readingLent weights rows) tcount
 
 abbrev μ-loop : tie.MeasureT-loop
-μ-loop n gates weights₀ rows₀ m g₀ weights rows g = m - g
+μ-loop n gates weights₀ rows₀ tcount₀ m g₀ weights rows tcount g = m - g
 
 -- the place where a turn has read the kind of its gate; the loop's head and the entry, seen from there
 abbrev Kinded : Type 0
@@ -35,7 +35,7 @@ entry k = search
 
 turn : (k : Kinded) →
     Turn maxWires (entry k .args .n) (now (entry k .args .gates)) (readBytes (entry k .args .n) (now (entry k .args .gates)))
-    (head k .loop .g) (readingLent (head k .loop .weights) (head k .loop .rows))
+    (head k .loop .g) (readingLent (head k .loop .weights) (head k .loop .rows)) (head k .loop .tcount)
 turn k = record { fit = entry k .pre .0; inside = omega arith; to = head k .loop .inv .2 }
 
 loop-holds : tie.Need-loop-holds Inv-loop μ-loop
@@ -50,6 +50,7 @@ loop-holds c =
         s .pre .1,
         subst (λ (x : Reading). SoundReading maxWires (s .args .n) x) (sym e) (start-sound maxWires (s .args .n) (s .pre .0)),
         ap (readFrom (gatesOf (now (s .args .gates)))) e,
+        (omega arith, omega arith),
       ),
     )
 
@@ -104,6 +105,10 @@ add-phase-requires c κs =
       phase = phase-lt _ _ (sym (k .kind-of .ensures) ∙ v .said .given .1);
     }
 
+-- at most one for each gate
+add-tcount : tie.Need-add-tcount Inv-loop μ-loop
+add-tcount c = let l : tie.At-loop Inv-loop μ-loop = search in record { fits = omega (arith, l .loop .inv .2 .3 .0) }
+
 loop-again-2 : tie.Need-loop-again-2 Inv-loop μ-loop
 loop-again-2 c =
     let add : tie.After-add-phase Inv-loop μ-loop = search in
@@ -116,7 +121,7 @@ loop-again-2 c =
       search needs,
       search needs,
       phase-on (turn k) (g .gate-at .ensures) _ (sym (v .said .given .1) ∙ k .kind-of .ensures)
-          (q .index-of .ensures .0 ∙ p .cell-at .ensures ∙ rw (i .wire-of .ensures)) (add .add-phase .ensures),
+          (q .index-of .ensures .0 ∙ p .cell-at .ensures ∙ rw (i .wire-of .ensures)) (add .add-phase .ensures) (omega arith),
     )
 
 loop-again-3 : tie.Need-loop-again-3 Inv-loop μ-loop
@@ -130,7 +135,9 @@ returns : tie.Need-returns Inv-loop μ-loop
 returns c =
     let s : tie.Start Inv-loop μ-loop = search in
     let l : tie.At-loop Inv-loop μ-loop = search in
-    reads-end (now (s .args .gates)) (l .loop .g) (readingLent (l .loop .weights) (l .loop .rows)) (omega arith) ∙ l .loop .inv .2 .2
+    let all = reads-end maxWires (s .args .n) (now (s .args .gates)) _ (l .loop .g) (readingLent (l .loop .weights) (l .loop .rows)) _
+    (omega arith) (l .loop .inv .2) in
+    record { reads = all .0; t-gates = all .1 }
 
 pub read-gates-spec : {M : Type 1} → statement M
 read-gates-spec =
@@ -154,6 +161,8 @@ read-gates-spec =
     cell-at-requires
     index-of-requires
     add-phase-requires
+    (λ c. search needs)
+    add-tcount
     (λ c. search needs)
     loop-again-2
     (λ c. search needs)
