@@ -10,7 +10,7 @@ pub mod search;
 
 use crate::gates::{gates_of, phase_of, Gate, CNOT, GATE_BYTES, MOST_GATES, MOST_WIRES, T, T_DAGGER};
 use crate::moves::Move;
-use crate::odd_set::{odd_set, size, t_count, Marks};
+use crate::odd_set::{odd_set, size, Marks};
 use crate::reading::{Reading, Rows, Weights, ROWS_BYTES, WEIGHTS_BYTES};
 use crate::trimming::{Counts, LOG_BYTES};
 use crate::writing::{spelling, WRITTEN_BYTES};
@@ -42,7 +42,7 @@ pub fn trim_into(
     assert!(is_accepted(n, list), "the list is accepted");
     gates.clear();
     log.clear();
-    let reading = read(n, list);
+    let (reading, t_in) = read(n, list);
     let odd_from = odd_set(&reading.weights);
     let mut marks = odd_from;
     let mut moves = 0;
@@ -52,13 +52,7 @@ pub fn trim_into(
         moves += 1;
     }
     write_to(n, &new_weights(n, &reading.weights, &marks), &reading.rows, gates);
-    Counts {
-        t_in: t_count(list),
-        odd_size: size(&odd_from),
-        t_out: size(&marks),
-        moves,
-        gates: gates.len() / GATE_BYTES,
-    }
+    Counts { t_in, odd_size: size(&odd_from), t_out: size(&marks), moves, gates: gates.len() / GATE_BYTES }
 }
 
 /// Whether the list has none of faults 1 to 5. The library judges every list before it reads it, and so does this trim.
@@ -89,21 +83,25 @@ fn carry_out(marks: &mut Marks, step: &Logged) {
     marks[0] = 0;
 }
 
-/// Weights and rows, the rows kept up to date gate by gate.
-pub fn read(n: usize, list: &[u8]) -> Reading {
+/// Weights and rows, the rows kept up to date gate by gate, and the number of T and T dagger gates: those that add an odd
+/// phase.
+pub fn read(n: usize, list: &[u8]) -> (Reading, usize) {
     let mut rows = [0; ROWS_BYTES];
     (0..n).for_each(|i| rows[i] = 1 << i);
     let mut weights = [0; WEIGHTS_BYTES];
+    let mut t_in = 0;
     for gate in gates_of(list) {
         let held = rows[usize::from(gate.a)];
         if gate.kind == CNOT {
             rows[usize::from(gate.b)] ^= held;
         } else {
             let weight = &mut weights[usize::from(held)];
-            *weight = (*weight + phase_of(gate.kind)) % 8;
+            let phase = phase_of(gate.kind);
+            *weight = (*weight + phase) % 8;
+            t_in += usize::from(phase % 2);
         }
     }
-    Reading { weights, rows }
+    (Reading { weights, rows }, t_in)
 }
 
 /// The new weights, from the sums over the parities that name a wire, and a pair of wires.

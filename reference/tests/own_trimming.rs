@@ -7,7 +7,7 @@ use sulmedra_reference::existence::{self, separating, smallest_z};
 use sulmedra_reference::fast::{self, Trimmed};
 use sulmedra_reference::gates::{GATE_BYTES, MOST_GATES};
 use sulmedra_reference::moves::{members, Move};
-use sulmedra_reference::odd_set::{odd_set, size, Marks};
+use sulmedra_reference::odd_set::{odd_set, size, t_count, Marks};
 use sulmedra_reference::published;
 use sulmedra_reference::random::{circuit, rows, weights, Random};
 use sulmedra_reference::reading::{read, Reading};
@@ -28,7 +28,7 @@ fn the_fast_reader_reads_as_brute_force_does() {
     for n in 1..=8 {
         for length in [0, 1, 10, 100, 1000] {
             let list = circuit(&mut random, n, length);
-            assert_eq!(fast::read(n, &list), read(n, &list), "n = {n}, list {list:?}");
+            assert_eq!(fast::read(n, &list), (read(n, &list), t_count(&list)), "n = {n}, list {list:?}");
         }
     }
 }

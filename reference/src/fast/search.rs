@@ -23,7 +23,8 @@ pub type Logged = [u8; MOVE_BYTES];
 pub fn search(n: usize, marks: &Marks) -> Option<Logged> {
     let mut list = [0; 256];
     let count = gather(n, marks, &mut list);
-    (0..n).find_map(|t| scan_wire(n, marks, &list[..count], t))
+    let (mut room, mut slots) = ([0; PRODUCT_BITS], Slots::empty());
+    (0..n).find_map(|t| scan_wire(n, marks, &list[..count], t, &mut room, &mut slots))
 }
 
 /// Lists the members ascending. Each parity is put at the end of the list and stays there if it is marked: no branch
@@ -38,17 +39,22 @@ fn gather(n: usize, marks: &Marks, list: &mut [u8; 256]) -> usize {
     count
 }
 
-/// All z whose highest wire is t, ascending.
+/// All z whose highest wire is t, ascending. What the room and the slots held before is nothing to it.
 #[inline]
-fn scan_wire(n: usize, marks: &Marks, odd_set: &[u8], t: usize) -> Option<Logged> {
-    let mut room = [0; PRODUCT_BITS];
-    let half = half(n, odd_set, t, &mut room);
-    let mut slots = Slots::empty();
+fn scan_wire(
+    n: usize,
+    marks: &Marks,
+    odd_set: &[u8],
+    t: usize,
+    room: &mut Vectors,
+    slots: &mut Slots,
+) -> Option<Logged> {
+    let half = half(n, odd_set, t, room);
     for z in (1 << t..2 << t).map(|z: usize| z as u8) {
         if !odd_set.iter().any(|y| is_member(marks, y ^ z)) {
             continue;
         }
-        if half.is_some_and(|half| all_apart(half, &mut room, marks, odd_set, z, t)) {
+        if half.is_some_and(|half| all_apart(half, room, marks, odd_set, z, t)) {
             continue;
         }
         let found = slots.search(marks, odd_set, z, t);
@@ -220,8 +226,7 @@ impl Slots {
     #[inline]
     fn name(&self, marks: &Marks, odd_set: &[u8], z: u8, used: u64, last: u8) -> Option<Logged> {
         let mask = self.by_members(used);
-        let slots = (0..PRODUCT_BITS).filter(|slot| mask >> slot & 1 == 1);
-        let chosen = iter::once(last).chain(slots.map(|slot| self.member[slot]));
+        let chosen = iter::once(last).chain(bits(mask).map(|slot| self.member[slot]));
         let of_pair = chosen.clone().find(|y| is_member(marks, y ^ z))?;
         let mut set = [false; 256];
         let mut xor = 0;
@@ -240,14 +245,25 @@ impl Slots {
     /// them above, that were taken off that one's column.
     #[inline]
     fn by_members(&self, used: u64) -> u64 {
-        let mut mask = used;
-        for (slot, by) in self.by.iter().enumerate() {
-            if mask >> slot & 1 == 1 {
-                mask ^= by;
-            }
+        let (mut mask, mut ahead) = (used, used);
+        while ahead != 0 {
+            let slot = ahead.trailing_zeros();
+            mask ^= self.by[slot as usize];
+            ahead = mask & !1 << slot;
         }
         mask
     }
+}
+
+/// The bits of a mask, the lowest first.
+#[inline]
+fn bits(mask: u64) -> impl Iterator<Item = usize> + Clone {
+    let mut left = mask;
+    iter::from_fn(move || {
+        let bit = left.trailing_zeros() as usize;
+        left &= left.wrapping_sub(1);
+        (bit < 64).then_some(bit)
+    })
 }
 
 /// The move with this z and Y.
