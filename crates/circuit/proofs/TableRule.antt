@@ -1,4 +1,4 @@
--- Fault 6: the steps of the code that finds it, and that there is none exactly where weights, or marks, are sound.
+-- Fault 6: the steps of the judge that finds it, and that there is none exactly where weights, or marks, are sound.
 use mathlib.Core.List.{List, [], _∷_}
 use mathlib.Core.Logic.{_≢_, _↔_}
 use mathlib.Core.Path.{ap, refl, sym, _∙_, _≡_}

@@ -1,5 +1,5 @@
 // The faults of document 01, each once by name, and the checks of a call and of a gate: 1, 2 and 8, then 3, 4 and 5. Check 6 is in
-// table_faults. Each function gives the fault's number, and 0 where there is none.
+// table_faults. Each check gives the fault's number, and 0 where there is none; `list_reply` gives the reply.
 ghost use mathlib.Core.Path.{_≡_};
 ghost use Rattle.circuit.specs.Gate.{gate, gatesOf};
 ghost use Rattle.circuit.specs.Faults.{wiresFault, listFault, lentFault, shortFault, orElse, listReply};

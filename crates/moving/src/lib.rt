@@ -1,4 +1,5 @@
-// Making legal moves, each with the smallest z, until none is left. The marks are lent, and flipped where they lie.
+// Making legal moves, each with the smallest z, until none is left. The marks are lent, and flipped where they lie. Internal: no entry for
+// users.
 ghost use mathlib.Core.Path.{_≡_};
 ghost use Prim.Native.Nat.{_≤_};
 ghost use lib.ListN.{length};

@@ -21,15 +21,16 @@ use Rattle.circuit.specs.declared.gates.Kind.the-variants.{Cnot, Phase, Unknown
 
 -- ---- reading the list, gate by gate
 
--- t of the gates before gate i are T or T dagger: no more than i, and with those of the gates from i on as many as the list holds
-abbrev pub CountedTo : List ℕ → ℕ → ℕ → Type 0
-CountedTo bytes i t = (t ≤ i) × (t + tGates (gatesFrom bytes i) ≡ tGates (gatesOf bytes))
-
--- gate i is to be read next: the gates from i on are well formed, the reading so far is sound, what is left of the list gives the whole
--- from it, and t are counted
-abbrev pub ReadTo : ℕ → ℕ → List ℕ → Reading → ℕ → Reading → ℕ → Type 0
-ReadTo N n bytes whole i r t =
-    AllWellFormed n (gatesFrom bytes i) × SoundReading N n r × (readFrom (gatesFrom bytes i) r ≡ whole) × CountedTo bytes i t
+-- gate i is to be read next, after the reading r and t gates that are T or T dagger
+pub record ReadTo (N n : ℕ) (bytes : List ℕ) (whole : Reading) (i : ℕ) (r : Reading) (t : ℕ) : Type 0 where
+  -- the gates from i on are well formed
+  pub formed : AllWellFormed n (gatesFrom bytes i)
+  pub sound : SoundReading N n r
+  -- what is left of the list gives the whole
+  pub gives : readFrom (gatesFrom bytes i) r ≡ whole
+  -- no more were counted than read, and with those of the gates from i on they are the list's
+  pub few : t ≤ i
+  pub counted : t + tGates (gatesFrom bytes i) ≡ tGates (gatesOf bytes)
 
 -- a turn at that gate, from the reading and the count so far
 pub record Turn (N n : ℕ) (bytes : List ℕ) (whole : Reading) (at : ℕ) (r : Reading) (t : ℕ) : Type 0 where
@@ -39,11 +40,11 @@ pub record Turn (N n : ℕ) (bytes : List ℕ) (whole : Reading) (at : ℕ) (r :
 
 module _ {N n : ℕ} {bytes : List ℕ} {whole : Reading} {at : ℕ} {r : Reading} {t : ℕ} (turn : Turn N n bytes whole at r t) where
   pub rows-long : length (r .rows) ≡ N
-  rows-long = turn .to .1 .rows .long
+  rows-long = turn .to .sound .rows .long
 
   -- a row is a parity
   pub row-fits : (h : ℕ) → row r h < 2 ^ N
-  row-fits h = let m : 2 ^ n ≤ 2 ^ N = pow-mono (turn .fit) in omega (arith, turn .to .1 .rows .within h)
+  row-fits h = let m : 2 ^ n ≤ 2 ^ N = pow-mono (turn .fit) in omega (arith, turn .to .sound .rows .within h)
 
 -- and its gate
 module _ {N n : ℕ} {bytes : List ℕ} {whole : Reading} {at : ℕ} {r : Reading} {t : ℕ} (turn : Turn N n bytes whole at r t)
@@ -51,7 +52,7 @@ module _ {N n : ℕ} {bytes : List ℕ} {whole : Reading} {at : ℕ} {r : Readin
   step : AllWellFormed n (gate kind a b ∷ gatesFrom bytes (at + 1))
   step =
       subst (λ (g : Gate). AllWellFormed n (g ∷ gatesFrom bytes (at + 1))) (sym here)
-      (rw (gates-step bytes at (turn .inside)) at (turn .to .0))
+      (rw (gates-step bytes at (turn .inside)) at (turn .to .formed))
 
   -- its kind byte says k
   module _ (k : Kind) (is : k ≡ kindOf kind) where
@@ -65,19 +66,19 @@ module _ {N n : ℕ} {bytes : List ℕ} {whole : Reading} {at : ℕ} {r : Readin
         ∙ ap (λ (odd : ℕ). odd + tGates (gatesFrom bytes (at + 1))) (t-is-odd kind ∙ ap (λ (k : Kind). turnOf k % 2) (sym is))
 
     -- it is counted if the phase that it adds is odd
-    count-on : {t′ : ℕ} → t′ ≡ t + turnOf k % 2 → CountedTo bytes (at + 1) t′
-    count-on e = (omega (arith, turn .to .3 .0, e), omega (arith, turn .to .3 .1, e, t-next))
-
     read-on : (next : Reading) {t′ : ℕ} → next ≡ readKind k a b r → t′ ≡ t + turnOf k % 2 → ReadTo N n bytes whole (at + 1) next t′
     unfolding readFrom
     read-on next e counted =
-        rw (e, is) (
-          step .1,
-          gate-keeps N n (turn .fit) (gate kind a b) r (step .0) (turn .to .1),
-          ap (λ (g : Gate). readFrom (g ∷ gatesFrom bytes (at + 1)) r) here
-              ∙ sym (ap (λ (gs : List Gate). readFrom gs r) (gates-step bytes at (turn .inside))) ∙ turn .to .2,
-          count-on counted,
-        )
+        record {
+          formed = step .1;
+          sound = rw (e, is) (gate-keeps N n (turn .fit) (gate kind a b) r (step .0) (turn .to .sound));
+          gives =
+              rw (e, is)
+              (ap (λ (g : Gate). readFrom (g ∷ gatesFrom bytes (at + 1)) r) here
+              ∙ sym (ap (λ (gs : List Gate). readFrom gs r) (gates-step bytes at (turn .inside))) ∙ turn .to .gives);
+          few = omega (arith, turn .to .few, counted);
+          counted = omega (arith, turn .to .counted, counted, t-next);
+        }
 
   module _ (is : Cnot ≡ kindOf kind) where
     pub cnot-wires : (a < N) × (b < N)
@@ -106,12 +107,12 @@ pub rows-joined : (rows : List ℕ) {rows′ : List ℕ} {i j p q a b : ℕ} →
     → rows′ ≡ set rows j (bitXor p q) → rows′ ≡ joinRows a b rows
 rows-joined rows ei ej ep eq er = rw (er, ep, eq, ei, ej)
 
-pub reads-end : (N n : ℕ) (bytes : List ℕ) (whole : Reading) (i : ℕ) (r : Reading) (t : ℕ) → i ≡ length bytes / gateBytes
+pub reads-end : {N n : ℕ} {bytes : List ℕ} {whole : Reading} {i : ℕ} {r : Reading} {t : ℕ} → i ≡ length bytes / gateBytes
     → ReadTo N n bytes whole i r t → (r ≡ whole) × (t ≡ tGates (gatesOf bytes))
 unfolding readFrom tGates
-reads-end N n bytes whole i r t e to =
+reads-end {bytes = bytes} {i = i} {r = r} e to =
     let none = gates-tail bytes i e in
-    (sym (ap (λ (gs : List Gate). readFrom gs r) none) ∙ to .2, omega (arith, to .3 .1, ap tGates none))
+    (sym (ap (λ (gs : List Gate). readFrom gs r) none) ∙ to .gives, omega (arith, to .counted, ap tGates none))
 
 -- ---- the first rows
 

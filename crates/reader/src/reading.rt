@@ -27,8 +27,8 @@ pub struct WeightsRows {
     pub tcount: usize,
 }
 
-// The weights and rows of a list, and its T and T dagger gates: those that add an odd phase. Each gate changes them in place. Internal: the
-// caller has found no fault.
+// The weights and rows of a list, and the number of its T and T dagger gates, which are those that add an odd phase. Each gate changes these
+// in place. Internal: the caller has found no fault.
 pub fn read_gates(n: usize, gates: &[u8]) -> WeightsRows
     requires { ⌜ (n ≤ maxWires) × AllWellFormed n (gatesOf (now gates)) ⌝ }
     ensures { λ r. ⌜ ReadAll n (now (gates .entry)) r ⌝ }

@@ -14,12 +14,12 @@ use Rattle.circuit.specs.Read.{Reading}
 use Rattle.circuit.specs.Replies.{numberOf, placeOf}
 use Rattle.circuit.specs.Run.{run}
 use Rattle.circuit.specs.Says.{says}
+use Rattle.circuit.specs.declared.Reply.the-variants as reply
 use Rattle.written.proofs.Checks.{fault-ready, longest, ready-faultless}
 use Rattle.written.proofs.Laws.{rack-runs-wrote}
-use Rattle.synth.specs.Entry.{GatesLeft, WriteList, WroteBytes}
 use Rattle.written.specs.Faults.{Writable, writeFault}
 use Rattle.written.specs.Spelling.{RackRuns}
-use Rattle.circuit.specs.declared.Reply.the-variants as reply
+use Rattle.synth.specs.Entry.{GatesLeft, WriteList, WroteBytes}
 use Rattle.synth.specs.declared.Written.{Written}
 use Rattle.synth.specs.declared.Written.the-variants.{Done, Refused}
 

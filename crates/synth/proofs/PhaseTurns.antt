@@ -17,10 +17,10 @@ use Rattle.gf2.proofs.Steady.{steady}
 use Rattle.gf2.specs.Bit.{NextBit, bit}
 use Rattle.gf2.specs.Parity.{lowest}
 use Rattle.written.proofs.AllParities.{phases-grow}
-use Rattle.synth.proofs.Stores.{room-first, room-then, stored-none, stored-then}
 use Rattle.written.specs.Spelling.{spell, spelling}
-use Rattle.synth.specs.Storing.{ParityReady, PhasesReady, Room, Stored, kindsOf}
 use Rattle.written.specs.Writing.{around, cnotIf, cnots, others, writeParity, writePhases}
+use Rattle.synth.proofs.Stores.{room-first, room-then, stored-none, stored-then}
+use Rattle.synth.specs.Storing.{ParityReady, PhasesReady, Room, Stored, kindsOf}
 use Rattle.synth.specs.declared.spelling.Kinds.{Kinds}
 use Rattle.synth.specs.declared.spelling.Kinds.the-variants.{Nothing, One, Two}
 

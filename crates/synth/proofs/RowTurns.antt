@@ -16,13 +16,13 @@ use Rattle.circuit.specs.Limits.{maxWires}
 use Rattle.circuit.specs.Read.{firstRows}
 use Rattle.gf2.proofs.Table.{Filled, filled-all}
 use Rattle.gf2.specs.Bit.{bit}
-use Rattle.synth.proofs.BitTests.{bit-told}
 use Rattle.written.proofs.MaskSteps.{Going, going-start, heldAfter, length-recount, recount-at}
 use Rattle.written.proofs.Pivots.{pivot-hit, pivot-miss}
 use Rattle.written.proofs.RowsWritten.{going-next, sound-pivot}
+use Rattle.written.specs.Writing.{cnots, lack, pivot, pivotFrom, recount, rowsFrom, writeRows}
+use Rattle.synth.proofs.BitTests.{bit-told}
 use Rattle.synth.proofs.Stores.{room-first, room-then, stored-none, stored-then}
 use Rattle.synth.specs.Storing.{Room, RowsReady, Stepped, Stored, bitOf}
-use Rattle.written.specs.Writing.{cnots, lack, pivot, pivotFrom, recount, rowsFrom, writeRows}
 use Rattle.synth.specs.declared.masks.Step.{Step}
 
 -- ---- the masks

@@ -5,20 +5,20 @@ use mathlib.Core.Path.{ap, refl, subst, sym, _∙_, _≡_}
 use Prim.Native.Nat.{_*_, _^_, suc, zero, ℕ}
 use native.Mathlib.Omega.{arith}
 use lib.ListN.{length, take}
+use Rattle.circuit.proofs.Bytes.{gates-of-bytes, length-bytes}
 use Rattle.circuit.proofs.TableRule.{call-done, call-refusal}
 use Rattle.circuit.specs.Faults.{Accepted}
 use Rattle.circuit.specs.Gate.{Gate, bytesOf, gatesOf}
 use Rattle.circuit.specs.Lent.{frontGates, readingLent}
 use Rattle.circuit.specs.Limits.{gateBytes, maxWires}
-use Rattle.circuit.proofs.Bytes.{gates-of-bytes, length-bytes}
 use Rattle.written.proofs.Checks.{fault-ready, longest}
-use Rattle.synth.proofs.Stores.{room-first, room-then, stored-front, stored-kept, stored-then}
 use Rattle.written.proofs.WriteBack.{list-written}
-use Rattle.written.specs.Wrote.{Wrote}
-use Rattle.synth.specs.Entry.{GatesLeft, WriteList, WroteBytes}
 use Rattle.written.specs.Faults.{Writable, writeFault}
-use Rattle.synth.specs.Storing.{PhasesReady, Room, RowsReady, Stored}
 use Rattle.written.specs.Writing.{writePhases, writeRows}
+use Rattle.written.specs.Wrote.{Wrote}
+use Rattle.synth.proofs.Stores.{room-first, room-then, stored-front, stored-kept, stored-then}
+use Rattle.synth.specs.Entry.{GatesLeft, WriteList, WroteBytes}
+use Rattle.synth.specs.Storing.{PhasesReady, Room, RowsReady, Stored}
 use Rattle.synth.specs.declared.Written.the-variants.{Done, Refused}
 
 -- ---- the ways out

@@ -14,17 +14,17 @@ use Rattle.circuit.specs.TableFaults.{Marked}
 use Rattle.moves.proofs.Laws.{limits-suffice}
 use Rattle.moves.specs.Log.{logged}
 use Rattle.moves.specs.Replay.{Replays, SmallestEach}
+use Rattle.moving.proofs.Making.{Turn, still-marked}
+use Rattle.moving.specs.Steps.{AllMade}
 use Rattle.phase.proofs.Laws.{new-weights-sound, odd-set-is-sound}
 use Rattle.phase.specs.NewWeights.{newWeights}
-use Rattle.written.specs.Wrote.{Wrote}
 use Rattle.synth.specs.Entry.{WroteBytes}
-use Rattle.written.specs.Faults.{Writable}
 use Rattle.trimmed.proofs.Whole.{whole}
 use Rattle.trimmed.specs.Trimmed.{Trimmed, oddSetOf, weightsOf}
 use Rattle.trimmed.specs.declared.Counts.{Counts}
-use Rattle.moving.proofs.Making.{Turn, still-marked}
+use Rattle.written.specs.Faults.{Writable}
+use Rattle.written.specs.Wrote.{Wrote}
 use Rattle.trimmer.specs.Entry.{Done-with, Trimmable, Writes-for}
-use Rattle.moving.specs.Steps.{AllMade}
 
 -- C is read: its weights and rows
 pub record ReadC (n : ℕ) (bytes out log w rows : List ℕ) : Type 0 where

@@ -9,12 +9,12 @@ use Rattle.circuit.specs.Gate.{gatesOf}
 use Rattle.circuit.specs.Lent.{frontGates}
 use Rattle.circuit.specs.Limits.{logCells, writeBytes}
 use Rattle.circuit.specs.Replies.{numberOf}
-use Rattle.circuit.specs.declared.Reply.{Reply}
 use Rattle.circuit.specs.declared.Reply.the-variants as reply
-use Rattle.written.proofs.Laws.{rack-runs-wrote}
-use Rattle.written.specs.Spelling.{RackRuns}
+use Rattle.circuit.specs.declared.Reply.{Reply}
 use Rattle.trimmed.specs.Trimmed.{Trimmed}
 use Rattle.trimmed.specs.declared.Counts.{Counts}
+use Rattle.written.proofs.Laws.{rack-runs-wrote}
+use Rattle.written.specs.Spelling.{RackRuns}
 use Rattle.trimmer.proofs.TrimWays.{may-trim}
 use Rattle.trimmer.specs.Entry.{Done-with, TrimLeft, TrimList, Trimmable, countsOf, told, trimLent, verdict}
 use Rattle.trimmer.specs.declared.TrimReply.{TrimReply}

@@ -9,14 +9,14 @@ use Rattle.circuit.specs.Lent.{KeptFrom, frontGates}
 use Rattle.circuit.specs.Limits.{gateBytes, logCells, maxWires, moveCells, parities, writeBytes}
 use Rattle.circuit.specs.Read.{read, withWeights}
 use Rattle.circuit.specs.Replies.{numberOf}
+use Rattle.circuit.specs.declared.Reply.the-variants as reply
+use Rattle.circuit.specs.declared.Reply.{Reply}
 use Rattle.phase.specs.NewWeights.{newWeights}
-use Rattle.written.specs.Wrote.{Wrote}
 use Rattle.trimmed.specs.Trimmed.{Trimmed, oddSetOf, weightsOf}
 use Rattle.trimmed.specs.declared.Counts.{Counts}
+use Rattle.written.specs.Wrote.{Wrote}
 use Rattle.trimmer.specs.declared.TrimReply.{TrimReply}
 use Rattle.trimmer.specs.declared.TrimReply.the-variants.{Done, Refused}
-use Rattle.circuit.specs.declared.Reply.{Reply}
-use Rattle.circuit.specs.declared.Reply.the-variants as reply
 
 -- ---- the reply
 

@@ -1,5 +1,5 @@
--- The checks of a call that writes: no fault exactly where everything is sound and there is room; and one law for each way the code takes
--- through them.
+-- The checks of a call that writes: no fault exactly where everything is sound and there is room; and one law for each way that
+-- `synth::faults::write_fault` takes through them.
 use mathlib.Core.List.{List}
 use mathlib.Core.Logic.{_≢_}
 use mathlib.Core.Path.{ap, sym, _∙_, _≡_}
@@ -30,7 +30,7 @@ abbrev callPart : ℕ → List ℕ → ℕ → ℕ
 callPart n w gates = callFault n (shortFault gates writeBytes) (weightsFault n w)
 
 module _ (n : ℕ) (w rows : List ℕ) (gates : ℕ) where
-  -- the code's fault of what is lent, and the code's fault of the call with it
+  -- what the function finds of what is lent, and of the call with it
   module _ (lent f : ℕ) (el : lent ≡ shortFault gates writeBytes) (ef : f ≡ callFault n lent (weightsFault n w)) where
     e : f ≡ callPart n w gates
     e = ef ∙ ap (λ (x : ℕ). callFault n x (weightsFault n w)) el

@@ -39,7 +39,7 @@ fn gather(n: usize, marks: &Marks, list: &mut [u8; 256]) -> usize {
     count
 }
 
-/// All z whose highest wire is t, ascending. What the room and the slots held before is nothing to it.
+/// All z whose highest wire is t, ascending. Whatever the room and the slots held before is overwritten or not looked at.
 #[inline]
 fn scan_wire(
     n: usize,

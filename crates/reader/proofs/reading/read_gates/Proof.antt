@@ -46,12 +46,13 @@ loop-holds c =
     let e = ap (readingLent (noWeights maxWires)) (f .first-rows .ensures) in (
       search needs,
       search needs,
-      (
-        s .pre .1,
-        subst (λ (x : Reading). SoundReading maxWires (s .args .n) x) (sym e) (start-sound maxWires (s .args .n) (s .pre .0)),
-        ap (readFrom (gatesOf (now (s .args .gates)))) e,
-        (omega arith, omega arith),
-      ),
+      record {
+        formed = s .pre .1;
+        sound = subst (λ (x : Reading). SoundReading maxWires (s .args .n) x) (sym e) (start-sound maxWires (s .args .n) (s .pre .0));
+        gives = ap (readFrom (gatesOf (now (s .args .gates)))) e;
+        few = omega arith;
+        counted = omega arith;
+      },
     )
 
 join-rows-requires : tie.Need-join-rows-requires Inv-loop μ-loop
@@ -99,15 +100,15 @@ add-phase-requires c κs =
     let g : tie.After-gate-at Inv-loop μ-loop = search in
     let wire = phase-wire (turn k) (g .gate-at .ensures) _ (sym (v .said .given .1) ∙ k .kind-of .ensures) in
     record {
-      long = turn k .to .1 .weights .long;
+      long = turn k .to .sound .weights .long;
       inside = omega (arith, q .index-of .ensures .1, wire, i .wire-of .ensures);
-      small = turn k .to .1 .weights .small _;
+      small = turn k .to .sound .weights .small _;
       phase = phase-lt _ _ (sym (k .kind-of .ensures) ∙ v .said .given .1);
     }
 
 -- at most one for each gate
 add-tcount : tie.Need-add-tcount Inv-loop μ-loop
-add-tcount c = let l : tie.At-loop Inv-loop μ-loop = search in record { fits = omega (arith, l .loop .inv .2 .3 .0) }
+add-tcount c = let l : tie.At-loop Inv-loop μ-loop = search in record { fits = omega (arith, l .loop .inv .2 .few) }
 
 loop-again-2 : tie.Need-loop-again-2 Inv-loop μ-loop
 loop-again-2 c =
@@ -133,10 +134,8 @@ loop-again-3 c =
 
 returns : tie.Need-returns Inv-loop μ-loop
 returns c =
-    let s : tie.Start Inv-loop μ-loop = search in
     let l : tie.At-loop Inv-loop μ-loop = search in
-    let all = reads-end maxWires (s .args .n) (now (s .args .gates)) _ (l .loop .g) (readingLent (l .loop .weights) (l .loop .rows)) _
-    (omega arith) (l .loop .inv .2) in
+    let all = reads-end (omega arith) (l .loop .inv .2) in
     record { reads = all .0; t-gates = all .1 }
 
 pub read-gates-spec : {M : Type 1} → statement M
