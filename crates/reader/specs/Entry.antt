@@ -10,14 +10,14 @@ use Rattle.circuit.specs.Limits.{maxWires, parities, rowCells, tableBytes}
 use Rattle.circuit.specs.Read.{Reading}
 use Rattle.circuit.specs.Replies.{after, numberOf}
 use Rattle.circuit.specs.declared.Reply.{Reply}
-use Rattle.reader.specs.declared.reading.WeightsRows.{WeightsRows}
+use Rattle.reader.specs.declared.reading.ListRead.{ListRead}
 
--- the code's weights and rows are a reading
-abbrev pub readingOf : WeightsRows → Reading
+-- the weights and rows that the code keeps of a list are a reading
+abbrev pub readingOf : ListRead → Reading
 readingOf t = readingLent (t .weights) (t .rows)
 
 -- a list as the code has read it
-pub record ReadAll (n : ℕ) (bytes : List ℕ) (t : WeightsRows) : Type 0 where
+pub record ReadAll (n : ℕ) (bytes : List ℕ) (t : ListRead) : Type 0 where
   -- its weights and rows
   pub reads : readingOf t ≡ readBytes n bytes
   -- how many T and T dagger gates it holds

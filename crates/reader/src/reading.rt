@@ -21,7 +21,7 @@ use circuit::parity::index_of;
 use circuit::parity::unit;
 
 // The weights, the rows and the number of T and T dagger gates of a list, as the code keeps them.
-pub struct WeightsRows {
+pub struct ListRead {
     pub weights: [Weight; TABLE_BYTES],
     pub rows: [Parity; MAX_WIRES],
     pub tcount: usize,
@@ -29,7 +29,7 @@ pub struct WeightsRows {
 
 // The weights and rows of a list, and the number of its T and T dagger gates, which are those that add an odd phase. Each gate changes these
 // in place. Internal: the caller has found no fault.
-pub fn read_gates(n: usize, gates: &[u8]) -> WeightsRows
+pub fn read_gates(n: usize, gates: &[u8]) -> ListRead
     requires { ⌜ (n ≤ maxWires) × AllWellFormed n (gatesOf (now gates)) ⌝ }
     ensures { λ r. ⌜ ReadAll n (now (gates .entry)) r ⌝ }
 {
@@ -53,7 +53,7 @@ pub fn read_gates(n: usize, gates: &[u8]) -> WeightsRows
             Kind::Unknown => {}
         }
     }
-    WeightsRows {
+    ListRead {
         weights: weights,
         rows: rows,
         tcount: tcount,
