@@ -1,16 +1,14 @@
--- Fault 6: the steps of the judge that finds it, and that there is none exactly where weights, or marks, are sound.
+-- Fault 6: there is none exactly where weights, or marks, are sound, and no other fault than this one.
 use mathlib.Core.List.{List, [], _∷_}
 use mathlib.Core.Logic.{_≢_, _↔_}
 use mathlib.Core.Path.{ap, refl, sym, _∙_, _≡_}
 use Prim.Native.Nat.{_+_, _<_, _^_, suc, zero, ℕ, _≤_}
 use native.Mathlib.Decide.{decLe, decLt, ℕ-discrete}
 use native.Mathlib.Nat.{add-zero}
-use native.Mathlib.Numerals.{add-one}
 use native.Mathlib.Omega.{arith}
-use lib.ListN.{List·getD-eq-default, drop, drop-of-length-le, getD, length}
-use lib.Seq.{drop-cons}
+use lib.ListN.{List·getD-eq-default, getD, length}
 use borrow.Author.Tests.{eq-eqb, le-leb, le-ltb, lt-leb, lt-ltb, ne-eqb}
-use Rattle.circuit.proofs.Judging.{or-first, or-pass, or-well, refused, wires-pass, wires-well}
+use Rattle.circuit.proofs.Judging.{or-pass, or-well, refused, wires-pass, wires-well}
 use Rattle.circuit.specs.Faults.{callReply, orElse, tableRule, wiresFault}
 use Rattle.circuit.specs.Limits.{maxMark, maxWeight, maxWires, parities}
 use Rattle.circuit.specs.Sound.{SoundMarks, SoundWeights, weight}
@@ -30,37 +28,22 @@ module _ (n most p : ℕ) where
   most-beyond ne h = simp (ne-eqb p 0 ne, le-ltb p (2 ^ n) h)
 
   module _ (x m : ℕ) (e : m ≡ mostAt n most p) where
-    pub byte-well : x ≤ m → 0 ≡ byteFault n most p x
+    byte-well : x ≤ m → 0 ≡ byteFault n most p x
     byte-well h = rw (← e) (simp (le-leb x m h))
 
-    pub byte-bad : m < x → tableRule ≡ byteFault n most p x
+    byte-bad : m < x → tableRule ≡ byteFault n most p x
     byte-bad h = rw (← e) (simp (lt-leb x m h))
 
-pub byte-passes : (n most p x : ℕ) → byteFault n most p x ≡ 0 → x ≤ mostAt n most p
+byte-passes : (n most p x : ℕ) → byteFault n most p x ≡ 0 → x ≤ mostAt n most p
 byte-passes n most p x e = go (mostAt n most p) refl (decLe x (mostAt n most p))
   where
     go : (m : ℕ) → m ≡ mostAt n most p → Dec (x ≤ mostAt n most p) → x ≤ mostAt n most p
     go m f (yes h) = h
     go m f (no h) = absurd (omega (arith, byte-bad n most p x m f (omega arith)))
 
--- ---- a loop over the bytes
+-- ---- the length of a table
 
-module _ (n most : ℕ) (table : List ℕ) (p : ℕ) (inside : p < length table) (f : ℕ) (e : f ≡ byteFault n most p (getD table p 0)) where
-  step : bytesFault n most p (drop p table) ≡ orElse f (bytesFault n most (p + 1) (drop (p + 1) table))
-  unfolding bytesFault
-  step = rw (drop-cons table p 0 inside, ← e, add-one p)
-
-  pub fault-at : f ≢ 0 → f ≡ bytesFault n most p (drop p table)
-  fault-at ne = or-first f (bytesFault n most (p + 1) (drop (p + 1) table)) ne ∙ sym step
-
-  pub fault-after : f ≡ 0 → bytesFault n most (p + 1) (drop (p + 1) table) ≡ bytesFault n most p (drop p table)
-  fault-after z = sym (step ∙ rw z)
-
-pub none-left : (n most : ℕ) (table : List ℕ) (p : ℕ) → length table ≤ p → 0 ≡ bytesFault n most p (drop p table)
-unfolding bytesFault
-none-left n most table p h = rw (drop-of-length-le table {i = p} h)
-
-pub long-table : (size n most : ℕ) (table : List ℕ) → length table ≡ size → bytesFault n most 0 table ≡ tableFault size n most table
+long-table : (size n most : ℕ) (table : List ℕ) → length table ≡ size → bytesFault n most 0 table ≡ tableFault size n most table
 unfolding tableFault
 long-table size n most table e = simp (eq-eqb (length table) size e)
 
@@ -104,13 +87,41 @@ table-passes size n most t e = go (ℕ-discrete (length t) size)
         at p (yes h) = let q : 0 + p ≡ p = omega arith in rw q at (bytes-pass n most 0 t (long-table size n most t l ∙ e) p h)
         at p (no h) = let g : length t ≤ p = omega arith in rw (List·getD-eq-default t 0 g) (omega arith)
 
-table-well : (size n most : ℕ) (t : List ℕ) → length t ≡ size → Ruled n most t → tableFault size n most t ≡ 0
+pub table-well : (size n most : ℕ) (t : List ℕ) → length t ≡ size → Ruled n most t → tableFault size n most t ≡ 0
 table-well size n most t l h =
     sym (long-table size n most t l) ∙ bytes-well n most 0 t (λ i g. let q : 0 + i ≡ i = omega arith in rw q (h i))
 
+-- there is no other fault than this one
+bytes-either : (n most p : ℕ) (t : List ℕ) → bytesFault n most p t ≢ 0 → tableRule ≡ bytesFault n most p t
+unfolding bytesFault
+bytes-either n most p [] ne = absurd (ne refl)
+bytes-either n most p (x ∷ xs) ne =
+    go (decLe x (mostAt n most p)) (λ z. ne (or-well (byteFault n most p x) (bytesFault n most (suc p) xs) (z .0) (z .1)))
+    (bytes-either n most (suc p) xs)
+  where
+    go : Dec (x ≤ mostAt n most p) → ((byteFault n most p x ≡ 0) × (bytesFault n most (suc p) xs ≡ 0) → ⊥)
+        → (bytesFault n most (suc p) xs ≢ 0 → tableRule ≡ bytesFault n most (suc p) xs)
+        → tableRule ≡ orElse (byteFault n most p x) (bytesFault n most (suc p) xs)
+    go (yes l) no-zero r =
+        let e : 0 ≡ byteFault n most p x = byte-well n most p x (mostAt n most p) refl l in
+        rw (← e) (r (λ z. no-zero (sym e, z)))
+    go (no l) no-zero r = rw (← (byte-bad n most p x (mostAt n most p) refl (omega arith)))
+
+-- a table against the rule has fault 6
+pub table-unruled : (size n most : ℕ) (t : List ℕ) → (length t ≡ size → Ruled n most t → ⊥) → tableRule ≡ tableFault size n most t
+table-unruled size n most t not = go (ℕ-discrete (length t) size) (ℕ-discrete (tableFault size n most t) 0)
+  where
+    go : Dec (length t ≡ size) → Dec (tableFault size n most t ≡ 0) → tableRule ≡ tableFault size n most t
+    go (no ne) d = other-length size n most t ne
+    go (yes l) (yes z) = absurd (not l (table-passes size n most t z .1))
+    go (yes l) (no nz) =
+        let e = long-table size n most t l in
+        bytes-either n most 0 t (λ z. nz (sym e ∙ z)) ∙ e
+
 -- ---- weights and marks
 
-ruled : (n most : ℕ) (t : List ℕ) → ((p : ℕ) → weight t p ≤ most) → weight t 0 ≡ 0 → ((p : ℕ) → 2 ^ n ≤ p → weight t p ≡ 0) → Ruled n most t
+pub ruled : (n most : ℕ) (t : List ℕ) → ((p : ℕ) → weight t p ≤ most) → weight t 0 ≡ 0 → ((p : ℕ) → 2 ^ n ≤ p → weight t p ≡ 0)
+    → Ruled n most t
 ruled n most t small none high p = go (ℕ-discrete p 0) (decLt p (2 ^ n))
   where
     go : Dec (p ≡ 0) → Dec (p < 2 ^ n) → weight t p ≤ mostAt n most p
@@ -118,7 +129,7 @@ ruled n most t small none high p = go (ℕ-discrete p 0) (decLt p (2 ^ n))
     go (no ne) (yes h) = rw (← most-inside n most p ne h) (small p)
     go (no ne) (no h) = rw (high p (omega arith)) (omega arith)
 
-at-most : (n most p : ℕ) → mostAt n most p ≤ most
+pub at-most : (n most p : ℕ) → mostAt n most p ≤ most
 at-most n most p = go (ℕ-discrete p 0) (decLt p (2 ^ n))
   where
     go : Dec (p ≡ 0) → Dec (p < 2 ^ n) → mostAt n most p ≤ most
@@ -126,7 +137,7 @@ at-most n most p = go (ℕ-discrete p 0) (decLt p (2 ^ n))
     go (no ne) (yes h) = omega (arith, most-inside n most p ne h)
     go (no ne) (no h) = omega (arith, most-beyond n most p ne (omega arith))
 
-high-none : (n most p : ℕ) → 2 ^ n ≤ p → mostAt n most p ≡ 0
+pub high-none : (n most p : ℕ) → 2 ^ n ≤ p → mostAt n most p ≡ 0
 high-none n most p h = go (ℕ-discrete p 0)
   where
     go : Dec (p ≡ 0) → mostAt n most p ≡ 0

@@ -1,9 +1,11 @@
 // Check 6 of document 01, and the calls that bring weights or marks: 1, 8, then 6. Weights or marks of another length, or with a byte
 // against its rule, are at fault. Each function gives the fault's number, and 0 where there is none.
 ghost use mathlib.Core.Path.{_≡_};
-ghost use Prim.Native.Nat.{_<_};
+ghost use Prim.Native.Nat.{_^_, _≤_, min};
+ghost use lib.ListN.{length};
 ghost use Rattle.circuit.specs.Limits.{parities, tableBytes};
-ghost use Rattle.circuit.specs.TableFaults.{callFault, marksFault, mostAt, tableFault, weightsFault};
+ghost use Rattle.circuit.specs.TableFaults.{callFault, marksFault, tableFault, weightsFault};
+ghost use Rattle.judges.specs.Largest.{Larger, Largest};
 use crate::faults::TABLE_RULE;
 use crate::faults::or_else;
 use crate::faults::wires_fault;
@@ -11,6 +13,7 @@ use circuit::limits::MAX_MARK;
 use circuit::limits::MAX_WEIGHT;
 use circuit::limits::MAX_WIRES;
 use circuit::limits::Mark;
+use circuit::limits::PARITIES;
 use circuit::limits::TABLE_BYTES;
 use circuit::limits::Weight;
 
@@ -43,33 +46,52 @@ fn call_fault(n: usize, lent: u8, table: u8) -> u8
     or_else(wires_fault(n), or_else(lent, table))
 }
 
-// A table whose bytes are at most what may stand at their places.
+// A table whose bytes are at most what may stand at their places: `most`, and nothing at 0 and from 2^n up. The largest byte tells of many
+// at a time.
 fn table_fault(n: usize, most: u8, table: &[u8]) -> u8
     ensures { λ r. ⌜ r ≡ tableFault tableBytes n most (now (table .entry)) ⌝ }
 {
     if table.len() != TABLE_BYTES {
         return TABLE_RULE;
     }
-    let mut p: usize = 0;
-    while p < table.len() {
-        if table[p] > most_at(n, most, p) {
-            return TABLE_RULE;
-        }
-        p += 1;
+    if table[0] != 0 {
+        return TABLE_RULE;
+    }
+    if largest(table, 0) > most {
+        return TABLE_RULE;
+    }
+    if largest(table, parities_on(n)) != 0 {
+        return TABLE_RULE;
     }
     0
 }
 
-// The most that may stand at p: 0 at 0 and from 2^n up.
-fn most_at(n: usize, most: u8, p: usize) -> u8
-    requires { ⌜ p < parities ⌝ }
-    ensures { λ r. ⌜ r ≡ mostAt n most p ⌝ }
+// How many parities n wires have, and never more than a table has places.
+fn parities_on(n: usize) -> usize
+    ensures { λ r. ⌜ r ≡ min (2 ^ n) parities ⌝ }
 {
-    if p == 0 {
-        return 0;
-    }
     if n >= MAX_WIRES {
-        return most;
+        return PARITIES;
     }
-    if p < 1 << n { most } else { 0 }
+    1 << n
+}
+
+// The largest byte from a place on. There is no branch on the bytes, so that many are compared at a time.
+fn largest(table: &[u8], from: usize) -> u8
+    requires { ⌜ from ≤ length (now table) ⌝ }
+    ensures { λ r. ⌜ Largest from (length (now (table .entry))) (now (table .entry)) r ⌝ }
+{
+    let mut most: u8 = 0;
+    let mut p = from;
+    while p < table.len() {
+        most = larger(most, table[p]);
+        p += 1;
+    }
+    most
+}
+
+fn larger(a: u8, b: u8) -> u8
+    ensures { λ r. ⌜ Larger a b r ⌝ }
+{
+    if a < b { b } else { a }
 }

@@ -1,72 +1,57 @@
--- The bytes before place p keep their rule: the fault of the rest is that of the table.
-use mathlib.Core.Path.{_∙_, _≡_, refl}
-use Prim.Native.Nat.{_-_, _≤_}
+-- Each test by its law.
 use native.Mathlib.Omega.{arith}
-use lib.ListN.{drop, length}
 use borrow.Author.Needs.{needs}
 use denote.Ref.{now}
-use Rattle.circuit.specs.Faults.{tableRule}
-use Rattle.circuit.specs.Limits.{parities, tableBytes}
-use Rattle.circuit.proofs.TableRule.{byte-bad, byte-well, fault-after, fault-at, long-table, none-left, other-length}
-use Rattle.circuit.specs.TableFaults.{bytesFault}
+use Rattle.circuit.proofs.TableRule.{other-length}
+use Rattle.circuit.specs.Limits.{parities}
+use Rattle.judges.proofs.LargestBytes.{beyond-wires, first-not-zero, largest-all, no-fault, too-large}
 use Rattle.judges.proofs.table_faults.table_fault.Statement.{statement}
 use Rattle.judges.proofs.table_faults.table_fault.Tie as tie
 
-abbrev Inv-loop : tie.InvT-loop
-Inv-loop n most table p₀ p =
-    (p ≤ length table) × (length table ≡ tableBytes) × (bytesFault n most p (drop p table) ≡ bytesFault n most 0 table)
-
-abbrev μ-loop : tie.MeasureT-loop
-μ-loop n most table p₀ p = length table - p
-
-returns : tie.Need-returns Inv-loop μ-loop
+returns : tie.Need-returns
 returns c =
-    let start : tie.Start Inv-loop μ-loop = search in
-    let a = start .args in other-length parities (a .n) (a .most) (now (a .table)) (omega arith)
+    let s : tie.Start = search in
+    other-length parities (s .args .n) (s .args .most) (now (s .args .table)) (omega arith)
 
-returns-2 : tie.Need-returns-2 Inv-loop μ-loop
+returns-2 : tie.Need-returns-2
 returns-2 c =
-    let m : tie.After-most-at Inv-loop μ-loop = search in
-    let at : tie.At-loop Inv-loop μ-loop = search in
-    let s : tie.Start Inv-loop μ-loop = search in
-    let a = s .args in
-    fault-at (a .n) (a .most) (now (a .table)) (at .loop .p) (omega arith) tableRule
-    (byte-bad (a .n) (a .most) (at .loop .p) _ _ (m .most-at .ensures) (omega arith)) (omega arith)
-    ∙ at .loop .inv .2 ∙ long-table parities (a .n) (a .most) (now (a .table)) (at .loop .inv .1)
+    let s : tie.Start = search in
+    first-not-zero parities (s .args .n) (s .args .most) (now (s .args .table)) (search)
 
-loop-again : tie.Need-loop-again Inv-loop μ-loop
-loop-again c =
-    let m : tie.After-most-at Inv-loop μ-loop = search in
-    let at : tie.At-loop Inv-loop μ-loop = search in
-    let s : tie.Start Inv-loop μ-loop = search in
-    let a = s .args in (
-      search needs,
-      search needs,
-      fault-after (a .n) (a .most) (now (a .table)) (at .loop .p) (omega arith) 0
-          (byte-well (a .n) (a .most) (at .loop .p) _ _ (m .most-at .ensures) (omega arith)) refl
-          ∙ at .loop .inv .2,
-    )
-
-returns-3 : tie.Need-returns-3 Inv-loop μ-loop
+returns-3 : tie.Need-returns-3
 returns-3 c =
-    let at : tie.At-loop Inv-loop μ-loop = search in
-    let start : tie.Start Inv-loop μ-loop = search in
-    let a = start .args in
-    none-left (a .n) (a .most) (now (a .table)) (at .loop .p) (omega arith)
-    ∙ at .loop .inv .2 ∙ long-table parities (a .n) (a .most) (now (a .table)) (at .loop .inv .1)
+    let all : tie.After-largest = search in
+    let s : tie.Start = search in
+    too-large parities (s .args .n) (s .args .most) (now (s .args .table)) (all .largest .ensures) (omega arith)
+
+returns-4 : tie.Need-returns-4
+returns-4 c =
+    let beyond : tie.After-largest2 = search in
+    let e : tie.After-parities-on = search in
+    let s : tie.Start = search in
+    beyond-wires parities (s .args .n) (s .args .most) (now (s .args .table)) (e .parities-on .ensures)
+    (largest-all (beyond .largest2 .ensures) (omega arith)) (search)
+
+returns-5 : tie.Need-returns-5
+returns-5 c =
+    let beyond : tie.After-largest2 = search in
+    let e : tie.After-parities-on = search in
+    let all : tie.After-largest = search in
+    let s : tie.Start = search in
+    no-fault parities (s .args .n) (s .args .most) (now (s .args .table)) (e .parities-on .ensures)
+    (largest-all (beyond .largest2 .ensures) (omega arith)) (omega arith) (search)
+    (largest-all (all .largest .ensures) (omega arith)) (omega arith) (search)
 
 pub table-fault-spec : {M : Type 1} → statement M
 table-fault-spec =
     tie.close
     (tie.spec
-    Inv-loop
-    μ-loop
     returns
     (λ c. search needs)
-    (λ c. search needs)
-    (λ c κs. search needs)
     returns-2
-    (λ c. search needs)
-    (λ c. search needs)
-    loop-again
-    returns-3)
+    (λ c κs. search needs)
+    returns-3
+    (λ c κs. search needs)
+    (λ c κs. search needs)
+    returns-4
+    returns-5)
