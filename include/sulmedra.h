@@ -145,11 +145,19 @@ typedef struct {
 sulmedra_written sulmedra_write(size_t n, const uint8_t *weights, size_t weights_len, const uint8_t *rows, size_t rows_len,
                                 uint8_t *gates, size_t gates_len);
 
-/* Carries out a move on the marks of an odd set, where they lie.
+typedef struct {
+    uint64_t number; /* 0, or the number of the fault */
+    uint64_t place;  /* 0 */
+    uint64_t differ; /* the number of marks that differ from before, 0 after a refusal */
+} sulmedra_carried;
+
+/* Carries out a move on the marks of an odd set, which are flipped where they lie, and tells how many of them differ from before. At most
+ * 2 |Y| + 1 do, where |Y| is the number in Y: those of y and y XOR z for each y in Y, and that of z. A mark that is flipped twice is as
+ * before and does not count, nor does mark 0, which is 0 again at the end.
  *   marks  256 bytes, each 0 or 1, 0 at parity 0 and from 2^n up; changed
  *   move   40 bytes: z, the number in Y, Y ascending, zeros
  * Checks, in order: 1 wire count, 8 length of the marks, 6 a mark against its rule, 10 no legal move for these marks. */
-sulmedra_reply sulmedra_carry_out(size_t n, uint8_t *marks, size_t marks_len, const uint8_t *move, size_t move_len);
+sulmedra_carried sulmedra_carry_out(size_t n, uint8_t *marks, size_t marks_len, const uint8_t *move, size_t move_len);
 
 typedef struct {
     uint64_t number; /* 0, or the number of the fault */

@@ -2,11 +2,17 @@
 //! The variable SULMEDRA_LIB_DIR names another folder to take it from.
 //!
 //! The variable SULMEDRA_BEFORE_DIR names a folder with `libbefore.a`, an earlier library, which the benchmark then times
-//! beside this one. The two must not share a name: all names of the earlier one are hidden but that of its trim, which
-//! gets another. What it takes from the C library keeps its name. From an earlier `libcapi.a`:
+//! beside this one. The two must not share a name: all names of the earlier one are hidden but those of the three
+//! functions that are timed, which get others. What it takes from the C library keeps its name. From an earlier
+//! `libcapi.a`:
 //!
 //!     objcopy --redefine-sym sulmedra_trim=before_sulmedra_trim --keep-global-symbol=before_sulmedra_trim \
+//!         --redefine-sym sulmedra_carry_out=before_sulmedra_carry_out --keep-global-symbol=before_sulmedra_carry_out \
+//!         --redefine-sym sulmedra_move_at=before_sulmedra_move_at --keep-global-symbol=before_sulmedra_move_at \
 //!         libcapi.a libbefore.a
+//!
+//! It must be a library from before request 2.4, whose `sulmedra_carry_out` replies number and place alone: a later one
+//! replies through other registers, and what the benchmark then reads means nothing.
 
 use std::env;
 use std::path::{Path, PathBuf};

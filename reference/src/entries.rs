@@ -13,7 +13,8 @@ pub mod weights;
 #[cfg(feature = "writing")]
 pub mod writing;
 
-/// What every entry answers: number 0 when done, else document 01's number of the fault and its place.
+/// What every entry answers: number 0 when done, else document 01's number of the fault and its place. Some answer more
+/// beside it, each in a struct of its own.
 #[repr(C)]
 #[derive(Clone, Copy, Debug, PartialEq, Eq)]
 pub struct Reply {

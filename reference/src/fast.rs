@@ -4,8 +4,10 @@
 //! eliminates the same columns in the same slots; judging, reading and writing go the library's way too. The new weights
 //! come from one sum for each wire and each pair, where the library has superset sums. A move is forty bytes from the
 //! start, and the outputs are lent, as the library has it. The rest is up to the compiler. The same trim also runs with
-//! another finder, given from outside.
+//! another finder, given from outside. Beside it stands a replay of logs, with the library's
+//! checks ([`replay`]).
 
+pub mod replay;
 pub mod search;
 
 use crate::gates::{gates_of, phase_of, Gate, CNOT, GATE_BYTES, MOST_GATES, MOST_WIRES, T, T_DAGGER};
@@ -14,6 +16,7 @@ use crate::odd_set::{odd_set, size, Marks};
 use crate::reading::{Reading, Rows, Weights, ROWS_BYTES, WEIGHTS_BYTES};
 use crate::trimming::{Counts, LOG_BYTES};
 use crate::writing::{spelling, WRITTEN_BYTES};
+use replay::flip;
 use search::{search, Logged};
 
 /// What a trim writes and reports.
@@ -47,7 +50,7 @@ pub fn trim_into(
     let mut marks = odd_from;
     let mut moves = 0;
     while let Some(step) = find(n, &marks) {
-        carry_out(&mut marks, &step);
+        flip(&mut marks, step[0], &step[2..][..usize::from(step[1])]);
         log.extend(step);
         moves += 1;
     }
@@ -69,18 +72,6 @@ fn is_accepted(n: usize, list: &[u8]) -> bool {
 /// A legal move with the smallest z, or None exactly when no move is legal.
 pub fn find(n: usize, marks: &Marks) -> Option<Move> {
     search(n, marks).map(|bytes| Move::from_bytes(&bytes).expect("the search gives the bytes of a move"))
-}
-
-/// Carries out a move on the marks where they lie.
-#[inline]
-fn carry_out(marks: &mut Marks, step: &Logged) {
-    let (z, count) = (step[0], step[1]);
-    for y in &step[2..][..usize::from(count)] {
-        marks[usize::from(*y)] ^= 1;
-        marks[usize::from(y ^ z)] ^= 1;
-    }
-    marks[usize::from(z)] ^= count % 2;
-    marks[0] = 0;
 }
 
 /// Weights and rows, the rows kept up to date gate by gate, and the number of T and T dagger gates: those that add an odd

@@ -8,17 +8,18 @@
 //! - [`parity`], [`reading`]: the parity a wire holds, found by search; weights and rows.
 //! - [`odd_set`]: the odd set and the T count.
 //! - [`coefficients`], [`new_weights`]: signed sums over all parities; the even rest, found by trying its values.
-//! - [`moves`], [`existence`]: legality word for word; whether a legal move exists, and the smallest z, by solving its
-//!   conditions.
+//! - [`moves`], [`existence`]: legality word for word, and the marks that differ after a move; whether a legal move
+//!   exists, and the smallest z, by solving its conditions.
 //! - [`writing`], [`trimming`]: what must hold of a written list, and of a trim: demand 3 and the smallest z.
 //! - [`text`]: the text form, split at its newlines. [`printing`]: what the program prints for a text.
 //! - [`faults`]: the table of faults and the order of checks.
 //! - [`demands`]: what must hold of any answer, whatever made it.
 //! - [`entries`]: the proved library's C functions. [`program`]: the proved program, run as a process.
 //! - [`lent`], [`comparison`]: lent buffers with guards around them; one call, held against the reference.
-//! - [`random`]: the generator and the random circuits, weights, odd sets and rows. [`texts`]: texts to try.
-//! - [`fast`], [`published`]: for the benchmark, a trimmer built for speed and the published search taken literally. The
-//!   first makes the proved code's own search, so comparisons with the library take inputs from it at most.
+//! - [`random`]: the generator and the random circuits, weights, odd sets, rows and moves. [`texts`]: texts to try.
+//! - [`fast`], [`published`]: for the benchmark, a trimmer and a replay of logs built for speed, and the published
+//!   search taken literally. The first makes the proved code's own search, and the second its checks, so comparisons
+//!   with the library take inputs from them at most.
 //!
 //! The comparisons stand in `tests/`. With the library made by `rt staticlib capi` in the repository's root, run
 //! `cargo test --release --offline` here. Each group of C functions is compared once its feature is on: `weights`,

@@ -1,4 +1,4 @@
-//! Legal moves (document 01, "Legal moves"), word for word.
+//! Legal moves (document 01, "Legal moves"), word for word, and how many marks a move changes (document 02, 2.4).
 
 use crate::coefficients::triples;
 use crate::odd_set::Marks;
@@ -34,6 +34,13 @@ impl Move {
         let ascending = y.windows(2).all(|two| two[0] < two[1]);
         let zeros = rest.iter().all(|byte| *byte == 0);
         (ascending && zeros).then(|| Move { z: bytes[0], y: y.to_vec() })
+    }
+
+    /// How the flips of the move meet: whether some y and y XOR z are both in Y, whether z is in Y, and whether Y has
+    /// an odd number, so that z is flipped by itself.
+    pub fn flips_that_meet(&self) -> [bool; 3] {
+        let both = self.y.iter().any(|y| self.y.contains(&(y ^ self.z)));
+        [both, self.y.contains(&self.z), self.y.len() % 2 == 1]
     }
 }
 
@@ -76,6 +83,11 @@ pub fn carry_out(marks: &Marks, step: &Move) -> Marks {
     }
     after[0] = 0;
     after
+}
+
+/// The number of parities whose mark is not the same in both tables. All of both are compared.
+pub fn differing(before: &Marks, after: &Marks) -> usize {
+    before.iter().zip(after).filter(|(one, other)| one != other).count()
 }
 
 /// Where move k lies in a log of this many bytes; None if the log has fewer than 40k + 40. The sum is too wide for a

@@ -1,9 +1,10 @@
-//! A small generator of its own, with a fixed seed for each test, and random circuits, weights, odd sets and rows.
+//! A small generator of its own, with a fixed seed for each test, and random circuits, weights, odd sets, rows and
+//! moves.
 
 use crate::demands::are_invertible;
 use crate::existence::separating;
 use crate::gates::{CNOT, GATE_BYTES, MOST_WIRES, PHASE_KINDS, S, S_DAGGER, T, T_DAGGER, Z};
-use crate::moves::{members, Move};
+use crate::moves::{is_legal, members, Move, MOST_IN_Y, MOVE_BYTES};
 use crate::odd_set::Marks;
 use crate::reading::{Rows, Weights, ROWS_BYTES, WEIGHTS_BYTES};
 
@@ -165,4 +166,39 @@ pub fn legal_move(random: &mut Random, n: usize, marks: &Marks) -> Option<Move> 
         }
         separating(n, &some, a, b)
     })
+}
+
+/// A random legal move, and more in Y, so that flips meet. Members c and c XOR z together with z add nothing to any
+/// sum: each of the three joins Y, or leaves it. Where z is no member this is done an even number of times, and z stays
+/// out. None if there is no legal move to begin with, or if Y gets too many.
+pub fn legal_move_with_pairs(random: &mut Random, n: usize, marks: &Marks) -> Option<Move> {
+    let Move { z, y } = legal_move(random, n, marks)?;
+    let pairs: Vec<u8> = members(marks).into_iter().filter(|c| marks[usize::from(c ^ z)] == 1).collect();
+    let mut set = [0; WEIGHTS_BYTES];
+    y.iter().for_each(|y| set[usize::from(*y)] = 1);
+    let times = random.between(1, 4) * if marks[usize::from(z)] == 1 { 1 } else { 2 };
+    for c in (0..times).map(|_| random.one_of(&pairs)) {
+        [c, c ^ z, z].iter().for_each(|y| set[usize::from(*y)] ^= 1);
+    }
+    let step = Move { z, y: members(&set) };
+    if step.y.len() > MOST_IN_Y {
+        return None;
+    }
+    assert!(is_legal(n, marks, &step), "a legal move again: {step:?} on {:?}", members(marks));
+    Some(step)
+}
+
+/// The bytes of a move, one or two of them changed: those that it fills, or a few of the zeros after.
+pub fn damaged_move(random: &mut Random, n: usize, step: &Move) -> [u8; MOVE_BYTES] {
+    let bytes = step.to_bytes();
+    let end = (step.y.len() + 5).min(MOVE_BYTES);
+    // A parity of n wires.
+    let mixed = ((u16::from(bytes[0]) + u16::from(bytes[2])) & ((1 << n) - 1)) as u8;
+    let mut changed = bytes;
+    for _ in 0..random.between(1, 2) {
+        let place = random.below(end);
+        let near = changed[place] ^ 1 << random.below(n);
+        changed[place] = random.one_of(&[near, near, 0, 1, mixed]);
+    }
+    changed
 }

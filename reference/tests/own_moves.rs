@@ -1,12 +1,15 @@
 //! The reference's moves, held against each other and against the paper. No C function is called.
 
+use std::collections::BTreeMap;
+
 use sulmedra_reference::coefficients::signature;
 use sulmedra_reference::existence::{
     check_found, find, find_by_trying_all, separating, smallest_z, smallest_z_of_pairs,
 };
-use sulmedra_reference::moves::{carry_out, is_legal, members, part_of_log, replay, Move};
+use sulmedra_reference::faults::{carry_out_reply, Fault, DONE};
+use sulmedra_reference::moves::{carry_out, differing, is_legal, members, part_of_log, replay, Move};
 use sulmedra_reference::odd_set::{size, Marks};
-use sulmedra_reference::random::{marks, Random};
+use sulmedra_reference::random::{damaged_move, legal_move, legal_move_with_pairs, marks, Random};
 use sulmedra_reference::{fast, published};
 
 fn odd_set_of(parities: impl IntoIterator<Item = usize>) -> Marks {
@@ -26,6 +29,47 @@ fn m8_is_legal_and_leaves_nothing() {
     assert_eq!(carry_out(&all, &m8()), [0; 256]);
     assert_eq!(replay(4, &all, &m8().to_bytes(), 1), Ok([0; 256]));
     assert!(replay(4, &all, &m8().to_bytes(), 2).is_err(), "one move is not two");
+}
+
+/// Equal tables, and tables that become different parity by parity, each by itself and all together.
+#[test]
+fn tables_that_differ_one_by_one() {
+    let mut random = Random::new(119);
+    for size in [0, 1, 128, 255] {
+        let before = marks(&mut random, 8, size);
+        let mut after = before;
+        assert_eq!(differing(&before, &after), 0);
+        for p in 0..256 {
+            let mut one = before;
+            one[p] ^= 1;
+            assert_eq!(differing(&before, &one), 1, "parity {p}");
+            after[p] ^= 1;
+            assert_eq!(differing(&before, &after), p + 1);
+        }
+    }
+}
+
+/// M8 changes all fifteen marks of four wires, whether z is a member or becomes one.
+#[test]
+fn m8_makes_fifteen_marks_differ() {
+    for odd_set in [odd_set_of(1..16), odd_set_of(2..16)] {
+        assert!(is_legal(4, &odd_set, &m8()));
+        assert_eq!(differing(&odd_set, &carry_out(&odd_set, &m8())), 15);
+    }
+}
+
+/// A move of 38 members, no two of which differ by z, and z not among them: 76 marks differ, and with no move more can.
+#[test]
+fn the_most_marks_that_differ() {
+    let y = [
+        2, 12, 21, 27, 29, 36, 37, 38, 42, 55, 60, 62, 74, 101, 102, 110, 112, 113, 121, 122, 131, 139, 147, 148, 154,
+        167, 172, 190, 195, 201, 205, 210, 213, 218, 221, 224, 242, 245,
+    ];
+    let (step, all) = (Move { z: 5, y: y.to_vec() }, odd_set_of(1..256));
+    assert_eq!(step.flips_that_meet(), [false, false, false]);
+    assert!(is_legal(8, &all, &step));
+    assert_eq!(differing(&all, &carry_out(&all, &step)), 76);
+    assert_eq!(carry_out_fast(8, &all, &step.to_bytes()), DONE);
 }
 
 /// M8 with one thing wrong at a time.
@@ -253,6 +297,107 @@ fn the_two_ways_round_a_pair_differ() {
     assert!(differ > 0);
 }
 
+/// Carries out a move by the code built for speed, with reply, marks and count held against the paper. Answers the
+/// reply.
+fn carry_out_fast(n: usize, marks: &[u8], step: &[u8]) -> Fault {
+    let mut left = marks.to_vec();
+    let answer = fast::replay::carry_out(n, &mut left, step);
+    let due = carry_out_reply(n, marks, step);
+    if due != DONE {
+        assert_eq!(answer, Err(due), "n = {n}, move {step:?}, marks {marks:?}");
+        assert_eq!(left, marks, "refusal {due:?} left a mark, n = {n}, move {step:?}");
+        return due;
+    }
+    let before: &Marks = marks.try_into().expect("accepted marks are 256");
+    let after = carry_out(before, &Move::from_bytes(step).expect("accepted bytes are a move"));
+    assert_eq!(left, after, "marks for n = {n}, move {step:?}, marks {marks:?}");
+    assert_eq!(answer, Ok(differing(before, &after)), "n = {n}, move {step:?}, marks {marks:?}");
+    due
+}
+
+/// Random legal moves, however their flips meet, and the same with some of their bytes or a mark changed.
+#[test]
+fn the_fast_carry_out_agrees_on_legal_and_damaged_moves() {
+    let mut random = Random::new(131);
+    let (mut came_up, mut accepted, mut refused) = (BTreeMap::new(), 0, 0);
+    for n in 4..=8 {
+        for _ in 0..200 {
+            let size = random.between(2 * n, (1 << n) - 1);
+            let marks = marks(&mut random, n, size);
+            let moves = [legal_move(&mut random, n, &marks), legal_move_with_pairs(&mut random, n, &marks)];
+            for step in moves.iter().flatten() {
+                assert_eq!(carry_out_fast(n, &marks, &step.to_bytes()), DONE, "n = {n}, {step:?}");
+                *came_up.entry(step.flips_that_meet()).or_insert(0) += 1;
+                for _ in 0..12 {
+                    let changed = damaged_move(&mut random, n, step);
+                    let mut other_marks = marks;
+                    other_marks[random.between(1, (1 << n) - 1)] ^= u8::from(random.below(3) == 0);
+                    match carry_out_fast(n, &other_marks, &changed) {
+                        DONE => accepted += 1,
+                        _ => refused += 1,
+                    }
+                }
+            }
+        }
+    }
+    assert!(came_up.len() == 8 && came_up.values().all(|times| *times > 30), "all came up: {came_up:?}");
+    assert!(accepted > 100 && refused > 1000, "both came up: {accepted} accepted, {refused} refused");
+}
+
+/// Every z of four wires, and two beyond, with every set of members of small odd sets.
+#[test]
+fn the_fast_carry_out_agrees_on_every_move_of_a_small_set() {
+    let mut random = Random::new(132);
+    let mut accepted = 0;
+    for _ in 0..8 {
+        let marks = marks(&mut random, 4, 10);
+        let odd_set = members(&marks);
+        for set in 0..1usize << odd_set.len() {
+            let y: Vec<u8> =
+                (0..odd_set.len()).filter(|place| set >> place & 1 == 1).map(|place| odd_set[place]).collect();
+            for z in 0..=17 {
+                let step = Move { z, y: y.clone() }.to_bytes();
+                accepted += usize::from(carry_out_fast(4, &marks, &step) == DONE);
+            }
+        }
+    }
+    assert!(accepted > 20, "legal moves came up: {accepted}");
+}
+
+/// Wire counts, lengths, marks and moves, sound and faulty, each with each other.
+#[test]
+fn the_fast_carry_out_agrees_on_faulty_arguments() {
+    let of_length =
+        |bytes: &[u8], length: usize| bytes.iter().chain(&[0; 256]).copied().take(length).collect::<Vec<u8>>();
+    let with = |bytes: &[u8], place: usize, value: u8| {
+        let mut changed = bytes.to_vec();
+        changed[place] = value;
+        changed
+    };
+    let (all, step) = (odd_set_of(1..16), m8().to_bytes());
+    let mut tables = [0, 255, 256, 257, 512].map(|length| of_length(&all, length)).to_vec();
+    tables.extend((0..256).flat_map(|p| [0, 1, 2, 255].map(|mark| with(&all, p, mark))));
+    let mut moves = [0, 39, 40, 41].map(|length| of_length(&step, length)).to_vec();
+    let changes = [(0, 0), (0, 3), (1, 0), (1, 6), (1, 8), (1, 39), (3, 2), (3, 7), (9, 1), (39, 255)];
+    moves.extend(changes.map(|(place, value)| with(&step, place, value)));
+    // Out of order, or a member more than once: every sum comes out even all the same, but Y is no ascending set.
+    let lists: [&[u8]; 4] = [
+        &[4, 2, 6, 8, 10, 12, 14],
+        &[2, 2, 2, 4, 6, 8, 10, 12, 14],
+        &[2, 3, 3, 4, 6, 8, 10, 12, 14],
+        &[2, 4, 6, 8, 10, 12, 14, 14, 14],
+    ];
+    moves.extend(lists.map(|y| Move { z: 1, y: y.to_vec() }.to_bytes().to_vec()));
+    let mut came_up = BTreeMap::new();
+    for n in (0..=10).chain([255, 256, 260, 1 << 32 | 4, usize::MAX]) {
+        for (marks, step) in tables.iter().flat_map(|marks| moves.iter().map(move |step| (marks, step))) {
+            *came_up.entry(carry_out_fast(n, marks, step).number).or_insert(0) += 1;
+        }
+    }
+    let numbers: Vec<u64> = came_up.keys().copied().collect();
+    assert_eq!(numbers, [0, 1, 6, 8, 10], "done and every fault came up: {came_up:?}");
+}
+
 #[test]
 fn parts_of_a_log() {
     assert_eq!(part_of_log(0, 0), None);
@@ -264,4 +409,19 @@ fn parts_of_a_log() {
     assert_eq!(part_of_log(10_200, 255), None);
     assert_eq!(part_of_log(10_200, usize::MAX), None);
     assert_eq!(part_of_log(10_200, usize::MAX / 40 + 1), None, "40k is past the machine word");
+}
+
+/// The code built for speed gives the same parts.
+#[test]
+fn fast_parts_of_a_log() {
+    let log = Random::new(133).bytes(400);
+    let mut there = 0;
+    for length in 0..=log.len() {
+        for k in (0..12).chain([1 << 61, usize::MAX / 40, usize::MAX / 40 + 1, usize::MAX]) {
+            let due = part_of_log(length, k).map(|start| &log[start..start + 40]);
+            assert_eq!(fast::replay::move_at(&log[..length], k), due, "move {k} of {length} bytes");
+            there += usize::from(due.is_some());
+        }
+    }
+    assert!(there > 1000, "moves came up: {there}");
 }

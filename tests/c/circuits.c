@@ -46,6 +46,14 @@ size_t members(const uint8_t *marks)
     return count;
 }
 
+size_t differing(const uint8_t *before, const uint8_t *after)
+{
+    size_t count = 0;
+    for (size_t p = 0; p < SULMEDRA_TABLE_BYTES; p++)
+        count += before[p] != after[p];
+    return count;
+}
+
 row_list same_wires(size_t n)
 {
     row_list rows;

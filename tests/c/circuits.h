@@ -58,6 +58,9 @@ table doubly_controlled_z(void);
 /* How many bytes are not 0. */
 size_t members(const uint8_t *marks);
 
+/* How many bytes of two tables are not the same. */
+size_t differing(const uint8_t *before, const uint8_t *after);
+
 /* Each wire ends as it began. */
 row_list same_wires(size_t n);
 

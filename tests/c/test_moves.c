@@ -31,26 +31,41 @@ static lent lend_move(move given)
     return lend_copy(given.bytes, SULMEDRA_MOVE_BYTES);
 }
 
+/* The marks with one of them set, or with one of them cleared. */
+static table with(table marks, unsigned parity)
+{
+    marks.at[parity] = 1;
+    return marks;
+}
+
+static table without(table marks, unsigned parity)
+{
+    marks.at[parity] = 0;
+    return marks;
+}
+
 /* ---- carry_out */
 
 typedef struct {
     lent marks, move;
-    sulmedra_reply reply;
+    sulmedra_carried reply;
 } carry_call;
 
 static carry_call call_carry_out(size_t n, lent marks, lent given)
 {
-    carry_call call = {marks, given, {0, 0}};
+    carry_call call = {marks, given, {0, 0, 0}};
     call.reply = sulmedra_carry_out(n, marks.bytes, marks.len, given.bytes, given.len);
     CHECK(call.reply.place == 0);
     CHECK(untouched(&call.move));
     return call;
 }
 
-static void carried_out(size_t n, table marks, move given, table due)
+static void carried_out(size_t n, table marks, move given, table due, uint64_t differ)
 {
     carry_call call = call_carry_out(n, lend_table(marks), lend_move(given));
     CHECK(call.reply.number == SULMEDRA_DONE);
+    CHECK(call.reply.differ == differ);
+    CHECK(call.reply.differ == differing(marks.at, call.marks.bytes));
     CHECK(starts_with(&call.marks, due.at, SULMEDRA_TABLE_BYTES));
     take_back();
 }
@@ -58,6 +73,7 @@ static void carried_out(size_t n, table marks, move given, table due)
 static void carry_refused(carry_call call, uint64_t number)
 {
     CHECK(call.reply.number == number);
+    CHECK(call.reply.differ == 0);
     CHECK(untouched(&call.marks));
     take_back();
 }
@@ -89,10 +105,8 @@ static void bad_move(const char *name, const uint8_t *first, size_t len)
 /* M8 for marks without one of its members. */
 static void no_member(void)
 {
-    table marks = ones(1, 15);
-    marks.at[14] = 0;
     about("carry_out: one of Y is no member");
-    carry_refused(call_carry_out(4, lend_table(marks), lend_move(marked_move())), SULMEDRA_FAULT_BAD_MOVE);
+    carry_refused(call_carry_out(4, lend_table(without(ones(1, 15), 14)), lend_move(marked_move())), SULMEDRA_FAULT_BAD_MOVE);
 }
 
 static void bad_moves(void)
@@ -111,12 +125,42 @@ static void bad_moves(void)
     no_member();
 }
 
+/* Moves with z = 1. A mark that is flipped twice is as before. That of z is flipped by itself where Y has an odd number. */
+static void flips_that_meet(void)
+{
+    about("carry_out: an even number in Y, so that z stays");
+    carried_out(5, ones(16, 31), move_of(LIST(1, 8, 16, 18, 20, 22, 24, 26, 28, 30)), zeros(), 16);
+    carried_out(5, with(ones(16, 31), 1), move_of(LIST(1, 8, 16, 18, 20, 22, 24, 26, 28, 30)), only(1, 1), 16);
+    about("carry_out: z in Y, and mark 0 is flipped and cleared");
+    carried_out(4, ones(1, 15), move_of(LIST(1, 8, 1, 3, 4, 6, 8, 10, 12, 14)), zeros(), 15);
+    about("carry_out: z in Y and an odd number, so that z is flipped twice");
+    carried_out(5, with(ones(16, 31), 1), move_of(LIST(1, 9, 1, 17, 18, 20, 22, 24, 26, 28, 30)), only(1, 1), 16);
+    about("carry_out: 16 and 17 both in Y, each flipped twice");
+    carried_out(5, ones(2, 17), move_of(LIST(1, 9, 3, 4, 6, 8, 10, 12, 14, 16, 17)), with(ones(16, 17), 1), 15);
+    about("carry_out: 16 and 17 both in Y, and z");
+    carried_out(5, ones(1, 17), move_of(LIST(1, 10, 1, 2, 4, 6, 8, 10, 12, 14, 16, 17)), ones(16, 17), 15);
+}
+
+/* No two of the 38 differ by z, and z is not among them: no move makes more marks differ. */
+static void most_that_differ(void)
+{
+    move most = move_of(LIST(5, 38, 2, 12, 21, 27, 29, 36, 37, 38, 42, 55, 60, 62, 74, 101, 102, 110, 112, 113, 121, 122, 131, 139, 147,
+                             148, 154, 167, 172, 190, 195, 201, 205, 210, 213, 218, 221, 224, 242, 245));
+    table due = ones(1, 255);
+    for (size_t i = 2; i < SULMEDRA_MOVE_BYTES; i++)
+        due = without(without(due, most.bytes[i]), most.bytes[i] ^ 5u);
+    about("carry_out: 38 in Y, and 76 marks differ");
+    carried_out(8, ones(1, 255), most, due, 76);
+}
+
 static void carrying_out(void)
 {
     about("carry_out: M8");
-    carried_out(4, ones(1, 15), marked_move(), zeros());
+    carried_out(4, ones(1, 15), marked_move(), zeros(), 15);
     about("carry_out: M8 without parity 1, which is z and is flipped");
-    carried_out(4, ones(2, 15), marked_move(), ones(1, 1));
+    carried_out(4, ones(2, 15), marked_move(), ones(1, 1), 15);
+    flips_that_meet();
+    most_that_differ();
     carry_refusals();
     bad_moves();
 }
@@ -145,8 +189,9 @@ static void found(size_t n, table marks)
     CHECK(call.reply.found == 1);
     CHECK(untouched_after(&call.move, SULMEDRA_MOVE_BYTES));
     table after = marks;
-    sulmedra_reply carried = sulmedra_carry_out(n, after.at, sizeof after.at, call.move.bytes, call.move.len);
+    sulmedra_carried carried = sulmedra_carry_out(n, after.at, sizeof after.at, call.move.bytes, call.move.len);
     CHECK(carried.number == SULMEDRA_DONE);
+    CHECK(carried.differ == differing(marks.at, after.at));
     CHECK(members(after.at) < members(marks.at));
     take_back();
 }

@@ -54,6 +54,8 @@ static void moving(void)
     CHECK(sulmedra_carry_out(1, NONE, WHOLE(move)).number == SULMEDRA_FAULT_LENT_OUTPUT);
     CHECK(sulmedra_carry_out(1, WHOLE(marks), NONE).number == SULMEDRA_FAULT_BAD_MOVE);
     CHECK(sulmedra_carry_out(1, NONE, NONE).number == SULMEDRA_FAULT_LENT_OUTPUT);
+    CHECK(sulmedra_carry_out(1, WHOLE(marks), NONE).differ == 0);
+    CHECK(sulmedra_carry_out(1, NONE, NONE).differ == 0);
     CHECK(sulmedra_find(1, NONE, WHOLE(move)).number == SULMEDRA_FAULT_TABLE_RULE);
     CHECK(sulmedra_find(1, WHOLE(marks), NONE).number == SULMEDRA_FAULT_LENT_OUTPUT);
     CHECK(sulmedra_find(1, NONE, NONE).number == SULMEDRA_FAULT_LENT_OUTPUT);

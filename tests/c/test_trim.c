@@ -61,7 +61,7 @@ static void has_its_counts(const trim_call *call)
     CHECK(reply->t_out + reply->moves <= reply->odd_size);
 }
 
-/* The logged moves lead from the one odd set to the other, and no move is left. */
+/* The logged moves lead from the one odd set to the other, each tells how many marks differ, and no move is left. */
 static void log_leads_there(const trim_call *call)
 {
     table marks = odd_set_of(call->n, call->gates.bytes, call->gates.len);
@@ -70,7 +70,10 @@ static void log_leads_there(const trim_call *call)
     for (size_t k = 0; k < call->reply.moves; k++) {
         sulmedra_part part = sulmedra_move_at(call->log.bytes, call->log.len, k);
         CHECK(part.start == SULMEDRA_MOVE_BYTES * k);
-        CHECK(sulmedra_carry_out(call->n, marks.at, sizeof marks.at, call->log.bytes + part.start, part.length).number == SULMEDRA_DONE);
+        table before = marks;
+        sulmedra_carried carried = sulmedra_carry_out(call->n, WHOLE(marks.at), call->log.bytes + part.start, part.length);
+        CHECK(carried.number == SULMEDRA_DONE);
+        CHECK(carried.differ == differing(before.at, marks.at));
     }
     CHECK(memcmp(marks.at, last.at, sizeof marks.at) == 0);
     CHECK(sulmedra_find(call->n, last.at, sizeof last.at, move, sizeof move).found == 0);

@@ -7,6 +7,8 @@ use lib.Dec.{leb}
 use lib.ListN.{drop, length, take}
 use Rattle.answer.specs.Entry as answer
 use Rattle.answer.specs.declared.Answered.{Answered}
+use Rattle.carry.specs.Entry as carry
+use Rattle.carry.specs.declared.Moved.{Moved}
 use Rattle.circuit.specs.Limits.{moveCells}
 use Rattle.circuit.specs.Read.{either}
 use Rattle.circuit.specs.Replies.{numberOf, placeOf}
@@ -30,6 +32,11 @@ pub record Called (R : Type 0) (told : R → Reply) (Promise : R → Type 0) (nu
 
 abbrev pub InC : (Reply → Type 0) → ℕ → ℕ → Type 0
 InC = Called Reply (λ r. r)
+
+-- carry_out: how many marks differ
+pub record CarryInC (Promise : Moved → Type 0) (number place differ : ℕ) : Type 0 where
+  pub called : Called Moved carry.told Promise number place
+  pub differ-is : differ ≡ carry.differOf (called .reply)
 
 -- find: 1 where a move was found
 pub record FindInC (Promise : Finding → Type 0) (number place found : ℕ) : Type 0 where

@@ -5,14 +5,15 @@ ghost use Rattle.circuit.specs.Replies.{numberOf, placeOf};
 ghost use Rattle.reader.specs.Entry.{ReadList};
 ghost use Rattle.rests.specs.Entry.{NewWeightsOf};
 ghost use Rattle.weights.specs.Entry.{OddSetOf, CoefficientsOf};
-ghost use Rattle.carry.specs.Entry.{CarriesOut};
+ghost use Rattle.carry.specs.Entry as carrying;
 ghost use Rattle.finder.specs.Entry as find;
 ghost use Rattle.synth.specs.Entry as write;
 ghost use Rattle.trimmer.specs.Entry as trim;
 ghost use Rattle.text.specs.Entry as read_text;
 ghost use Rattle.answer.specs.Entry as answers;
-ghost use Rattle.capi.specs.InC.{InC, FindInC, WriteInC, TrimInC, TextInC, AnswerInC, MoveInC};
+ghost use Rattle.capi.specs.InC.{InC, CarryInC, FindInC, WriteInC, TrimInC, TextInC, AnswerInC, MoveInC};
 use answer::Answered;
+use carry::Moved;
 use circuit::Reply;
 use circuit::limits::Coefficient;
 use circuit::limits::MOVE_CELLS;
@@ -29,6 +30,14 @@ use trimmer::TrimReply;
 pub struct SulmedraReply {
     pub number: u64,
     pub place: u64,
+}
+
+// A reply to a move, with how many marks differ from before.
+#[repr(C)]
+pub struct SulmedraCarried {
+    pub number: u64,
+    pub place: u64,
+    pub differ: u64,
 }
 
 // A reply of the finder: found is 1 where a move was written.
@@ -144,10 +153,11 @@ pub extern "C" fn sulmedra_carry_out(
     n: usize,
     marks: &mut [Mark],
     cells: &[MoveCell],
-) -> SulmedraReply
-    ensures { λ r. ⌜ InC (CarriesOut n (now (marks .entry)) (now (cells .entry)) (now (marks .exit))) (r .number) (r .place) ⌝ }
+) -> SulmedraCarried
+    ensures { λ r. ⌜ CarryInC (carrying.CarriesOut n (now (marks .entry)) (now (cells .entry)) (now (marks .exit)))
+        (r .number) (r .place) (r .differ) ⌝ }
 {
-    in_c(carry::carry_out(n, marks, cells))
+    carried_in_c(carry::carry_out(n, marks, cells))
 }
 
 // `finder::find`.
@@ -257,6 +267,24 @@ fn text_in_c(reply: TextReply) -> SulmedraText
             place: place as u64,
             wires: 0,
             gates: 0,
+        },
+    }
+}
+
+fn carried_in_c(reply: Moved) -> SulmedraCarried
+    ensures { λ r. ⌜ (r .number ≡ numberOf (carrying.told reply)) × (r .place ≡ placeOf (carrying.told reply))
+        × (r .differ ≡ carrying.differOf reply) ⌝ }
+{
+    match reply {
+        Moved::Done { differ } => SulmedraCarried {
+            number: 0,
+            place: 0,
+            differ: differ as u64,
+        },
+        Moved::Refused { number, place } => SulmedraCarried {
+            number: number as u64,
+            place: place as u64,
+            differ: 0,
         },
     }
 }

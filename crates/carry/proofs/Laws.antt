@@ -1,5 +1,5 @@
 -- The laws of the entries on one page: which calls `carry_out` accepts, and what the promises mean. The proofs are in the modules named.
-use mathlib.Core.Bool.{Bool, cond, false, true}
+use mathlib.Core.Bool.{Bool, false, true}
 use mathlib.Core.List.{List, []}
 use mathlib.Core.Logic.{_↔_, _≢_}
 use mathlib.Core.Path.{_∙_, _≡_, ap, refl, sym}
@@ -11,16 +11,19 @@ use Rattle.circuit.specs.Faults.{badMove, refuse}
 use Rattle.circuit.specs.Limits.{maxMembers, moveCells}
 use Rattle.circuit.specs.Replies.{after, numberOf}
 use Rattle.circuit.specs.TableFaults.{Marked}
-use Rattle.circuit.specs.declared.Reply.{Reply}
-use Rattle.circuit.specs.declared.Reply.the-variants.{Done, Refused}
+use Rattle.circuit.specs.declared.Reply.the-variants as reply
 use Rattle.moves.proofs.Deciding.{move-is, move-yes}
-use Rattle.moves.proofs.Logs.{cells-say, move-short, move-whole}
-use Rattle.moves.specs.CarryOut.{carryOut}
+use Rattle.moves.proofs.Laws.{move-differs-few}
+use Rattle.moves.proofs.Logs.{cells-checked, cells-say, move-short, move-whole}
+use Rattle.moves.specs.CarryOut.{carryOut, differing}
 use Rattle.moves.specs.Decide.{isMove}
 use Rattle.moves.specs.Log.{LegalCells, asCells, moveAt, setOf, zOf}
 use Rattle.moves.specs.Move.{Legal}
-use Rattle.carry.proofs.Ways.{call-clear}
-use Rattle.carry.specs.Entry.{CarriesOut, carryFault, carryReply}
+use Rattle.legality.proofs.Conditions.{set-few}
+use Rattle.carry.proofs.Ways.{call-clear, verdict}
+use Rattle.carry.specs.Entry.{CarriesOut, carryFault, carryReply, differOf, told}
+use Rattle.carry.specs.declared.Moved.{Moved}
+use Rattle.carry.specs.declared.Moved.the-variants.{Done, Refused}
 
 -- ---- what the cells say
 
@@ -40,38 +43,63 @@ carry-called = call-clear
 
 -- demand 1: nothing that is sound and legal is refused, nothing else is accepted
 pub carry-accepts : (n : ℕ) (marks cells : List ℕ)
-    → (carryReply n marks cells ≡ Done) ↔ (Marked n marks × LegalCells maxMembers n marks cells)
+    → (carryReply n marks cells ≡ reply.Done) ↔ (Marked n marks × LegalCells maxMembers n marks cells)
 carry-accepts n marks cells = (
-  λ e. let s = refuse-done (carryFault n marks) 0 (cond (isMove maxMembers n marks cells) Done (Refused badMove 0)) e in
+  λ e. let s = refuse-done (carryFault n marks) 0 (verdict (isMove maxMembers n marks cells)) e in
       (carry-called n marks .0 (s .0), move-is maxMembers n marks cells (only-true (isMove maxMembers n marks cells) (s .1))),
-  λ c. ap (λ (f : ℕ). refuse f 0 (cond (isMove maxMembers n marks cells) Done (Refused badMove 0))) (carry-called n marks .1 (c .0))
-      ∙ ap (λ (t : Bool). cond t Done (Refused badMove 0)) (move-yes maxMembers n marks cells (c .1)),
+  λ c. ap (λ (f : ℕ). refuse f 0 (verdict (isMove maxMembers n marks cells))) (carry-called n marks .1 (c .0))
+      ∙ ap verdict (move-yes maxMembers n marks cells (c .1)),
 )
   where
-    only-true : (t : Bool) → cond t Done (Refused badMove 0) ≡ Done → t ≡ true
+    only-true : (t : Bool) → verdict t ≡ reply.Done → t ≡ true
     only-true true e = refl
     only-true false e = absurd (refused-not-done badMove 0 e)
 
 -- number 0 says done: a refusal has another
-pub carry-number : (n : ℕ) (marks cells : List ℕ) {number place : ℕ} → carryReply n marks cells ≡ Refused number place → number ≢ 0
+pub carry-number : (n : ℕ) (marks cells : List ℕ) {number place : ℕ} → carryReply n marks cells ≡ reply.Refused number place → number ≢ 0
 carry-number n marks cells {number} {place} =
-    refusal-number (carryFault n marks) 0 (cond (isMove maxMembers n marks cells) Done (Refused badMove 0))
+    refusal-number (carryFault n marks) 0 (verdict (isMove maxMembers n marks cells))
     (judged (isMove maxMembers n marks cells))
   where
-    judged : (t : Bool) → cond t Done (Refused badMove 0) ≡ Refused number place → number ≢ 0
+    judged : (t : Bool) → verdict t ≡ reply.Refused number place → number ≢ 0
     judged true e = done-number e
     judged false e = let s : badMove ≡ number = cc in omega arith
 
-module _ (n : ℕ) (marks cells marks′ : List ℕ) (r : Reply) (promise : CarriesOut n marks cells marks′ r) where
+module _ (n : ℕ) (marks cells marks′ : List ℕ) (r : Moved) (promise : CarriesOut n marks cells marks′ r) where
   -- a refusal leaves the marks as they were
   pub refusal-leaves : (number place : ℕ) → r ≡ Refused number place → marks′ ≡ marks
   refusal-leaves number place e =
-      promise .marks-left ∙ ap (λ (v : Reply). after (numberOf v) (carryOut marks (zOf cells) (setOf cells)) marks) e
-      ∙ sym (after-refusal number _ marks (carry-number n marks cells (sym (promise .reply) ∙ e)))
+      promise .marks-left ∙ ap (λ (v : Moved). after (numberOf (told v)) (carryOut marks (zOf cells) (setOf cells)) marks) e
+      ∙ sym (after-refusal number _ marks (carry-number n marks cells (sym (promise .reply) ∙ ap told e)))
 
   -- the first fault of the call, with place 0
-  pub refusal-says : carryFault n marks ≢ 0 → r ≡ Refused (carryFault n marks) 0
+  pub refusal-says : carryFault n marks ≢ 0 → told r ≡ reply.Refused (carryFault n marks) 0
   refusal-says h = promise .reply ∙ refused (carryFault n marks) 0 _ h
+
+  -- a move that is done was legal
+  pub done-legal : (differ : ℕ) → r ≡ Done differ → Marked n marks × LegalCells maxMembers n marks cells
+  done-legal differ e = carry-accepts n marks cells .0 (sym (promise .reply) ∙ ap told e)
+
+  -- as many marks differ as the move changes
+  pub done-differ : (differ : ℕ) → r ≡ Done differ → differ ≡ differing marks (carryOut marks (zOf cells) (setOf cells))
+  done-differ differ e =
+      sym (ap differOf e) ∙ promise .differ
+      ∙ ap (differing marks)
+      (promise .marks-left ∙ ap (λ (v : Moved). after (numberOf (told v)) (carryOut marks (zOf cells) (setOf cells)) marks) e)
+
+  -- at most two for each of Y, and one more
+  pub done-few : (differ : ℕ) → r ≡ Done differ → differ ≤ 2 * length (setOf cells) + 1
+  done-few differ e =
+      rw (done-differ differ e) (move-differs-few marks (done-legal differ e .0 .sound .none) (zOf cells) (setOf cells))
+
+  -- and Y has at most maxMembers
+  pub done-under : (differ : ℕ) → r ≡ Done differ → differ ≤ 2 * maxMembers + 1
+  done-under differ e =
+      omega (arith, done-few differ e, set-few (cells-checked maxMembers n marks cells .0 (done-legal differ e .1) .0))
+
+-- document 02, 2.4: "a move flips under eighty marks"
+pub under-eighty : 2 * maxMembers + 1 < 80
+under-eighty = omega arith
 
 -- ---- move_at
 

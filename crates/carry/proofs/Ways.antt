@@ -3,7 +3,7 @@ use mathlib.Core.Bool.{Bool, cond}
 use mathlib.Core.List.{List}
 use mathlib.Core.Logic.{_↔_, _≢_, inl, inr}
 use mathlib.Core.Path.{_∙_, _≡_, ap, refl, sym}
-use Prim.Native.Nat.{_<_, _^_, _≤_, ℕ}
+use Prim.Native.Nat.{_^_, _≤_, ℕ}
 use native.Mathlib.Omega.{arith}
 use lib.ListN.{length}
 use lib.Pow.{pow-mono}
@@ -11,23 +11,29 @@ use Rattle.circuit.proofs.Judging.{after-refusal, lent-well, refused}
 use Rattle.circuit.proofs.TableRule.{marks-passes}
 use Rattle.circuit.specs.Faults.{badMove, lentFault, refuse}
 use Rattle.circuit.specs.Limits.{maxMembers, maxWires, parities, tableBytes}
+use Rattle.circuit.specs.Sound.{SoundMarks}
 use Rattle.circuit.specs.TableFaults.{Marked}
 use Rattle.circuit.specs.declared.Reply.{Reply}
-use Rattle.circuit.specs.declared.Reply.the-variants.{Done, Refused}
-use Rattle.gf2.specs.Over.{Below}
+use Rattle.circuit.specs.declared.Reply.the-variants as reply
 use Rattle.moves.proofs.Deciding.{move-no, move-yes}
+use Rattle.moves.proofs.Differing.{differing-none}
 use Rattle.moves.proofs.Laws.{move-keeps-signature, move-leaves-sound, move-shrinks}
 use Rattle.moves.proofs.Logs.{cells-checked}
-use Rattle.moves.proofs.Wires.{cells-wires}
+use Rattle.moves.proofs.Wires.{cells-wires, sound-wires}
 use Rattle.moves.specs.CarryOut.{carryOut}
 use Rattle.moves.specs.Decide.{isMove}
 use Rattle.moves.specs.Log.{LegalCells, setOf, zOf}
-use Rattle.carry.proofs.Conditions.{members-below, separates-below}
+use Rattle.legality.proofs.Conditions.{separates-below, separates-some}
 use Rattle.carry.specs.Entry.{CarriesOut, carryFault, carryReply}
+use Rattle.carry.specs.Flips.{Flippable, Flips}
+use Rattle.carry.specs.declared.Moved.the-variants.{Done, Refused}
 
--- the reply where the checks of the call pass
+-- the reply where the checks of the call pass, by whether the cells are a legal move
+abbrev pub verdict : Bool → Reply
+verdict legal = cond legal reply.Done (reply.Refused badMove 0)
+
 judge : ℕ → List ℕ → List ℕ → Reply
-judge n m b = cond (isMove maxMembers n m b) Done (Refused badMove 0)
+judge n m b = verdict (isMove maxMembers n m b)
 
 -- ---- the checks of the call
 
@@ -45,6 +51,7 @@ call-refused {n} {f} {m} {b} e h =
       reply = sym (refused f 0 (judge n m b) h) ∙ ap (λ (x : ℕ). refuse x 0 (judge n m b)) e;
       judged = λ z. absurd (h (e ∙ z));
       marks-left = after-refusal f _ m h;
+      differ = sym (differing-none m);
       signature = λ d. absurd (h d);
       sound = λ d. absurd (h d);
       smaller = λ d. absurd (h d);
@@ -53,6 +60,10 @@ call-refused {n} {f} {m} {b} e h =
 -- ---- the move
 
 module _ {n : ℕ} {m : List ℕ} (marked : Marked n m) where
+  -- sound on all wires too
+  pub sound-on-all : SoundMarks parities maxWires m
+  sound-on-all = sound-wires parities n maxWires m (marked .few) (marked .sound)
+
   by-move : (b : List ℕ) → judge n m b ≡ carryReply n m b
   unfolding judge
   by-move b = ap (λ (x : ℕ). refuse x 0 (judge n m b)) (sym (call-clear n m .1 marked))
@@ -66,26 +77,28 @@ module _ {n : ℕ} {m : List ℕ} (marked : Marked n m) where
   move-refused {b} h =
       let none : LegalCells maxMembers n m b → ⊥ = λ g. h (on-all b .0 g) in
       record {
-        reply = ap (λ (x : Bool). cond x Done (Refused badMove 0)) (sym (move-no maxMembers n m b none)) ∙ by-move b;
+        reply = ap verdict (sym (move-no maxMembers n m b none)) ∙ by-move b;
         judged = λ z. inr (refl, refl, none);
         marks-left = refl;
+        differ = sym (differing-none m);
         signature = λ d. absurd (omega arith);
         sound = λ d. absurd (omega arith);
         smaller = λ d. absurd (omega arith);
       }
 
-  pub move-done : {z : ℕ} {b Y m′ : List ℕ} → LegalCells maxMembers maxWires m b → z ≡ zOf b → Y ≡ setOf b → m′ ≡ carryOut m z Y
-      → CarriesOut n m b m′ Done
+  pub move-done : {z differ : ℕ} {b Y m′ : List ℕ} → LegalCells maxMembers maxWires m b → z ≡ zOf b → Y ≡ setOf b
+      → Flips (carryOut m z Y) m m′ differ → CarriesOut n m b m′ (Done differ)
   unfolding judge
-  move-done {z} {b} {Y} {m′} g d e p =
+  move-done {z} {differ} {b} {Y} {m′} g d e p =
       let legal = on-all b .1 g in
       let said = cells-checked maxMembers n m b .0 legal .1 in
       let room : 2 ^ n ≤ parities = pow-mono {i = n} {j = maxWires} (marked .few) in
-      let q : m′ ≡ carryOut m (zOf b) (setOf b) = rw (← d, ← e) p in
+      let q : m′ ≡ carryOut m (zOf b) (setOf b) = rw (← d, ← e) (p .are) in
       record {
-        reply = ap (λ (x : Bool). cond x Done (Refused badMove 0)) (sym (move-yes maxMembers n m b legal)) ∙ by-move b;
+        reply = ap verdict (sym (move-yes maxMembers n m b legal)) ∙ by-move b;
         judged = λ z. inl (refl, legal);
         marks-left = q;
+        differ = p .counted;
         signature = λ _. rw q (move-keeps-signature parities n maxMembers room m (marked .sound) (zOf b) (setOf b) said);
         sound = λ _. rw q (move-leaves-sound parities n maxMembers room m (marked .sound) (zOf b) (setOf b) said);
         smaller = λ _. rw q (move-shrinks parities n maxMembers room m (marked .sound) (zOf b) (setOf b) said);
@@ -93,11 +106,16 @@ module _ {n : ℕ} {m : List ℕ} (marked : Marked n m) where
 
 -- ---- what carrying it out takes
 
-module _ {m b : List ℕ} (legal : LegalCells maxMembers maxWires m b) where
-  -- z and Y, as code takes them from the cells, are parities
-  pub may-carry : {z : ℕ} {Y : List ℕ} → length m ≡ tableBytes → z ≡ zOf b → Y ≡ setOf b
-      → (length m ≡ tableBytes) × (z < parities) × Below parities Y
-  may-carry long d e =
-      let said = cells-checked maxMembers maxWires m b .0 legal .1 in
-      let marked = said .marked in
-      rw (d, e) (long, separates-below maxWires m (setOf b) long marked (said .separates), members-below maxWires m (setOf b) long marked)
+-- z and Y, as code takes them from the cells
+pub may-carry : {m b Y : List ℕ} {z : ℕ} → LegalCells maxMembers maxWires m b → SoundMarks parities maxWires m → z ≡ zOf b → Y ≡ setOf b
+    → Flippable m z Y
+may-carry {m} {b} legal sound d e =
+    let said = cells-checked maxMembers maxWires m b .0 legal .1 in
+    rw (d, e)
+    (record {
+      sound = sound;
+      some = separates-some (said .separates);
+      fits = separates-below maxWires m (setOf b) (sound .long) (said .marked) (said .separates);
+      few = said .few;
+      members = said .marked;
+    })

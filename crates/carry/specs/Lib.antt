@@ -1,2 +1,2 @@
-pub mod Tested
+pub mod Flips
 pub mod Entry

@@ -1,11 +1,11 @@
 -- Bits of a number, and the machine's xor by them.
 use mathlib.Core.Logic.{inl, inr, _≢_, _⊎_}
 use mathlib.Core.Path.{ap, refl, sym, _∙_, _≡_}
-use Prim.Native.Nat.{_%_, _*_, _+_, _/_, _<_, _^_, suc, zero, ℕ}
+use Prim.Native.Nat.{_%_, _*_, _+_, _/_, _<_, _^_, min, suc, zero, ℕ}
 use native.Mathlib.Nat.{div-eq-of-lt, div-one, one-mul, zero-div, zero-mul}
 use native.Mathlib.Numerals.{one-add}
 use native.Mathlib.Omega.{arith}
-use lib.Bits.{bitXor, xor-add-and, xor-shr}
+use lib.Bits.{and-shr, and-step, bitAnd, bitXor, xor-add-and, xor-shr}
 use lib.Pow.{pow-mono, shr-shr}
 use Rattle.gf2.specs.Bit.{bit}
 
@@ -35,6 +35,20 @@ bit-of-zero i = rw zero-div
 pub bit-xor : (a b i : ℕ) → bit (bitXor a b) i ≡ (bit a i + bit b i) % 2
 unfolding bit
 bit-xor a b i = rw (xor-shr a b i) (omega (arith, xor-add-and (a / 2 ^ i) (b / 2 ^ i)))
+
+-- and of and
+pub bit-and : (a b i : ℕ) → bit (bitAnd a b) i ≡ bit a i * bit b i
+unfolding bit
+bit-and a b i =
+    rw (and-shr a b i, and-step (a / 2 ^ i) (b / 2 ^ i))
+    (lowest-and (bitAnd (a / 2 ^ i / 2) (b / 2 ^ i / 2)) (a / 2 ^ i % 2) (b / 2 ^ i % 2) (omega arith) (omega arith))
+  where
+    lowest-and : (q x y : ℕ) → x < 2 → y < 2 → (q * 2 + min x y) % 2 ≡ x * y
+    lowest-and q zero y hx hy = omega arith
+    lowest-and q (suc zero) zero hx hy = omega arith
+    lowest-and q (suc zero) (suc zero) hx hy = omega arith
+    lowest-and q (suc zero) (suc (suc y)) hx hy = absurd (omega arith)
+    lowest-and q (suc (suc x)) y hx hy = absurd (omega arith)
 
 pub bit-ext : (k a b : ℕ) → a < 2 ^ k → b < 2 ^ k → ((i : ℕ) → i < k → bit a i ≡ bit b i) → a ≡ b
 bit-ext zero a b ha hb e = omega arith

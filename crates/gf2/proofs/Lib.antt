@@ -24,3 +24,4 @@ pub mod Expansion
 pub mod XorInto
 pub mod BitCounts
 pub mod Superset
+pub mod Copies

@@ -1,6 +1,6 @@
 -- Sums and xors over a list: linear, by congruence, and each bit of a xor by a sum modulo 2.
 use mathlib.Core.List.{List, [], _++_, _∷_, map}
-use mathlib.Core.Path.{_∙_, _≡_, ap, refl, sym}
+use mathlib.Core.Path.{_∙_, _≡_, ap, ap₂, refl, sym}
 use Prim.Native.Nat.{_%_, _*_, _+_, _<_, _^_, suc, suc-le-suc, zero, zero-le, ℕ}
 use native.Mathlib.Nat.{add-mod}
 use native.Mathlib.Omega.{arith}
@@ -46,6 +46,12 @@ pub sumOver-ext : (f g : ℕ → ℕ) → ((y : ℕ) → f y ≡ g y) → (ys : 
 unfolding sumOver
 sumOver-ext f g h [] = refl
 sumOver-ext f g h (y ∷ ys) = omega (arith, h y, sumOver-ext f g h ys)
+
+-- of two functions that agree on the numbers of the list
+pub sumOver-in : (g h : ℕ → ℕ) (Y : List ℕ) → ((i : ℕ) → i < length Y → g (getD Y i 0) ≡ h (getD Y i 0)) → sumOver g Y ≡ sumOver h Y
+unfolding sumOver
+sumOver-in g h [] e = refl
+sumOver-in g h (y ∷ Y) e = ap₂ (λ (a b : ℕ). a + b) (e 0 (suc-le-suc zero-le)) (sumOver-in g h Y (λ i l. e (suc i) (suc-le-suc l)))
 
 -- no term
 pub sumOver-none : (f : ℕ → ℕ) (ys : List ℕ) → ((i : ℕ) → i < length ys → f (getD ys i 0) ≡ 0) → sumOver f ys ≡ 0

@@ -7,3 +7,4 @@ pub mod Over
 pub mod Echelon
 pub mod Every
 pub mod Superset
+pub mod Copies

@@ -92,7 +92,7 @@ sum-at w p l =
     ∙ rw (delta-same p) (omega arith)
 
 -- y xor z is p exactly when y is p xor z
-delta-xor : (p z y : ℕ) → delta p (bitXor y z) ≡ delta (bitXor p z) y
+pub delta-xor : (p z y : ℕ) → delta p (bitXor y z) ≡ delta (bitXor p z) y
 delta-xor p z y = go (ℕ-discrete y (bitXor p z))
   where
     go : Dec (y ≡ bitXor p z) → delta p (bitXor y z) ≡ delta (bitXor p z) y

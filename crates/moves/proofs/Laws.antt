@@ -10,23 +10,24 @@ use lib.ListN.{getD, length}
 use lib.Pow.{pow-mono}
 use Rattle.circuit.specs.Limits.{maxMembers, maxWires, parities, productBits}
 use Rattle.circuit.specs.OddSet.{memberCount}
-use Rattle.circuit.specs.Sound.{SoundMarks}
+use Rattle.circuit.specs.Sound.{SoundMarks, weight}
 use Rattle.gf2.specs.Bit.{bit}
-use Rattle.gf2.specs.Over.{xorAll}
+use Rattle.gf2.specs.Over.{Below, xorAll}
 use Rattle.phase.specs.Signature.{SameSignature}
 use Rattle.moves.proofs.Bound.{bound}
 use Rattle.moves.proofs.Deciding.{move-decided}
+use Rattle.moves.proofs.Differing.{differing-few}
 use Rattle.moves.proofs.Keep.{keeps, sound-kept}
 use Rattle.moves.proofs.Logs.{cells-unique}
-use Rattle.moves.proofs.OneXor.{balanced-iff}
+use Rattle.moves.proofs.OneXor.{balanced-iff, balanced-pairs}
 use Rattle.moves.proofs.Pairs.{none-tagged}
 use Rattle.moves.proofs.Products.{product-bit, product-by-bits, product-lt, tri-mono, tri-square}
 use Rattle.moves.proofs.Replaying.{replays-held, replays-one-number, replays-shrinks, replays-signature, smallest-one-z}
 use Rattle.moves.proofs.Shrink.{shrinks}
 use Rattle.moves.proofs.Wires.{legal-wires}
-use Rattle.moves.specs.CarryOut.{carryOut}
+use Rattle.moves.specs.CarryOut.{carryOut, differing}
 use Rattle.moves.specs.Decide.{isMove}
-use Rattle.moves.specs.Column.{column}
+use Rattle.moves.specs.Column.{barPairs, column}
 use Rattle.moves.specs.Log.{LegalCells, SmallestCells, asCells, logged, zOf}
 use Rattle.moves.specs.Move.{Balanced, Legal, NoneLegal}
 use Rattle.moves.specs.Pair.{Stands, pairTag}
@@ -78,10 +79,20 @@ module _ (size n most : ℕ) (room : 2 ^ n ≤ size) (marks : List ℕ) (sound :
       → (Y : List ℕ) → Legal most n marks z Y → ⊥
   z-none z t l h closed Y legal = none-tagged size n most room marks sound z t l h Y legal closed
 
+-- document 02, 2.4: at most two marks for each of Y differ after a move, and one more
+pub move-differs-few : (marks : List ℕ) → weight marks 0 ≡ 0 → (z : ℕ) (Y : List ℕ)
+    → differing marks (carryOut marks z Y) ≤ 2 * length Y + 1
+move-differs-few marks none z Y = differing-few marks z Y none
+
 -- the xor of Y is 0 and every triple condition holds, exactly where two xors are 0
 pub two-xors : (n z t : ℕ) → t < n → bit z t ≡ 1 → (Y : List ℕ)
     → Balanced n z Y ↔ ((xorAll Y ≡ 0) × (xorAll (map (column n z t) Y) ≡ 0))
 two-xors = balanced-iff
+
+-- the same with the pairs of wires that the check of a move looks at
+pub two-xors-of-pairs : (n z t : ℕ) → t < n → bit z t ≡ 1 → (Y : List ℕ) → z < 2 ^ n → Below (2 ^ n) Y
+    → Balanced n z Y ↔ ((xorAll Y ≡ 0) × (xorAll (map (barPairs n z t) Y) ≡ 0))
+two-xors-of-pairs = balanced-pairs
 
 -- ---- moves as cells, and logs of them
 

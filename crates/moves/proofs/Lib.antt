@@ -2,6 +2,7 @@ pub mod Sets
 pub mod Even
 pub mod Flips
 pub mod Change
+pub mod Differing
 pub mod Keep
 pub mod Shrink
 pub mod Products

@@ -1,4 +1,5 @@
--- For one z, "the xor of Y is 0 and every triple condition holds" is two xors: that of Y, and that of its columns.
+-- For one z, "the xor of Y is 0 and every triple condition holds" is two xors: that of Y, and that of its columns, or of the pairs of wires
+-- of its bars.
 use mathlib.Core.List.{List, map}
 use mathlib.Core.Logic.{_↔_}
 use mathlib.Core.Path.{_∙_, _≡_, ap, sym}
@@ -7,18 +8,20 @@ use native.Mathlib.Decide.{decLt}
 use native.Mathlib.Nat.{mul-comm}
 use native.Mathlib.Omega.{arith}
 use lib.Bits.{xor-lt}
+use lib.ListN.{getD}
 use lib.Pow.{pow-pos}
 use Rattle.gf2.proofs.Bit.{bit-ext, bit-lt, bit-of-zero, bit-scale, bit-xor}
 use Rattle.gf2.proofs.Over.{below-map, xorAll-lt, xorAll-map-bit}
 use Rattle.gf2.proofs.Selection.{scale-lt}
 use Rattle.gf2.proofs.Brute.{brute6, brute7}
+use Rattle.gf2.proofs.Copies.{pairs-even}
 use Rattle.gf2.specs.Bit.{bit}
-use Rattle.gf2.specs.Over.{sumOver, xorAll}
+use Rattle.gf2.specs.Over.{Below, sumOver, xorAll}
 use Rattle.moves.proofs.Even.{Even, even-add, even-bit, even-by, even-scale, triples-all}
 use Rattle.moves.proofs.Products.{Place, place, product-bit, product-lt}
-use Rattle.moves.specs.Column.{bar, column}
+use Rattle.moves.specs.Column.{bar, barPairs, column}
 use Rattle.moves.specs.Move.{Balanced, triple}
-use Rattle.moves.specs.Product.{product, tri}
+use Rattle.moves.specs.Product.{tri}
 
 pub bar-bit : (z t y i : ℕ) → bit (bar z t y) i ≡ (bit y i + bit y t * bit z i) % 2
 unfolding bar
@@ -65,22 +68,8 @@ module _ (n z t : ℕ) (t-lt : t < n) (z-t : bit z t ≡ 1) (Y : List ℕ) where
   of-map : (u : ℕ) → bit (xorAll (map (column n z t) Y)) u ≡ sumOver (λ y. bit (column n z t y) u) Y % 2
   of-map u = xorAll-map-bit (column n z t) u Y
 
-  -- ---- two xors of 0 make Y balanced
-  module _ (zero-xor : xorAll Y ≡ 0) (zeroes : xorAll (map (column n z t) Y) ≡ 0) where
-    bb-up : (i j : ℕ) → i ≤ j → j < n → Even (bb i j) Y
-    bb-up i j h l =
-        even-by (bb i j) (λ y. bit (column n z t y) (tri j + i)) Y (λ y. ap (λ (x : ℕ). x % 2) (sym (column-bit n z t y i j h l)))
-        (sym (of-map (tri j + i)) ∙ rw zeroes (bit-of-zero (tri j + i)))
-
-    bb-even : (i j : ℕ) → i < n → j < n → Even (bb i j) Y
-    bb-even i j li lj = go (decLt j i)
-      where
-        go : Dec (j < i) → Even (bb i j) Y
-        go (yes l) =
-            even-by (bb i j) (bb j i) Y (λ y. ap (λ (x : ℕ). x % 2) (mul-comm (bit (bar z t y) i) (bit (bar z t y) j)))
-            (bb-up j i (omega arith) li)
-        go (no l) = bb-up i j (omega arith) lj
-
+  -- ---- where each two bits of the bars have an even number of products, Y is balanced
+  module _ (zero-xor : xorAll Y ≡ 0) (bb-even : (i j : ℕ) → i < n → j < n → Even (bb i j) Y) where
     triple-even : (i j k : ℕ) → i < n → j < n → k < n → Even (triple z i j k) Y
     triple-even i j k li lj lk =
         let p : ℕ = bit z i in
@@ -99,7 +88,7 @@ module _ (n z t : ℕ) (t-lt : t < n) (z-t : bit z t ≡ 1) (Y : List ℕ) where
     balanced : Balanced n z Y
     balanced = record { zero-xor = zero-xor; triples = λ i j k l g f. triple-even i j k (omega arith) (omega arith) f }
 
-  -- ---- the columns of a balanced Y have xor 0
+  -- ---- and where Y is balanced, they have
   module _ (b : Balanced n z Y) where
     bb-balanced : (i j : ℕ) → i < n → j < n → Even (bb i j) Y
     bb-balanced i j li lj =
@@ -111,13 +100,33 @@ module _ (n z t : ℕ) (t-lt : t < n) (z-t : bit z t ≡ 1) (Y : List ℕ) where
         (even-add (triple z t i j) (λ y. p * q * bit y t) Y (triples-all n z Y b t i j t-lt li lj)
         (even-scale (p * q) (λ y. bit y t) Y (even-bit Y (b .zero-xor) t)))
 
+  -- Y is balanced exactly if its xor is 0 and each two bits of the bars have an even number of products
+  evens-iff : Balanced n z Y ↔ ((xorAll Y ≡ 0) × ((i j : ℕ) → i < n → j < n → Even (bb i j) Y))
+  evens-iff = (λ b. (b .zero-xor, bb-balanced b), λ e. balanced (e .0) (e .1))
+
+  -- ---- the products as they stand in the columns
+  bb-columns : xorAll (map (column n z t) Y) ≡ 0 → (i j : ℕ) → i < n → j < n → Even (bb i j) Y
+  bb-columns zeroes i j li lj = go (decLt j i)
+    where
+      bb-up : (i j : ℕ) → i ≤ j → j < n → Even (bb i j) Y
+      bb-up i j h l =
+          even-by (bb i j) (λ y. bit (column n z t y) (tri j + i)) Y (λ y. ap (λ (x : ℕ). x % 2) (sym (column-bit n z t y i j h l)))
+          (sym (of-map (tri j + i)) ∙ rw zeroes (bit-of-zero (tri j + i)))
+
+      go : Dec (j < i) → Even (bb i j) Y
+      go (yes l) =
+          even-by (bb i j) (bb j i) Y (λ y. ap (λ (x : ℕ). x % 2) (mul-comm (bit (bar z t y) i) (bit (bar z t y) j)))
+          (bb-up j i (omega arith) li)
+      go (no l) = bb-up i j (omega arith) lj
+
+  module _ (even : (i j : ℕ) → i < n → j < n → Even (bb i j) Y) where
     zero-bits : (u : ℕ) → u < tri n → Even (λ y. bit (column n z t y) u) Y
     zero-bits u l =
         let s : Place n u = place n u l in
         rw (s .is)
         (even-by (λ y. bit (column n z t y) (tri (s .j) + s .i)) (bb (s .i) (s .j)) Y
         (λ y. ap (λ (x : ℕ). x % 2) (column-bit n z t y (s .i) (s .j) (s .i-le) (s .j-lt)))
-        (bb-balanced (s .i) (s .j) (omega (arith, s .i-le, s .j-lt)) (s .j-lt)))
+        (even (s .i) (s .j) (omega (arith, s .i-le, s .j-lt)) (s .j-lt)))
 
     columns-zero : xorAll (map (column n z t) Y) ≡ 0
     columns-zero =
@@ -126,4 +135,16 @@ module _ (n z t : ℕ) (t-lt : t < n) (z-t : bit z t ≡ 1) (Y : List ℕ) where
         (λ u l. of-map u ∙ zero-bits u l ∙ sym (bit-of-zero u))
 
   pub balanced-iff : Balanced n z Y ↔ ((xorAll Y ≡ 0) × (xorAll (map (column n z t) Y) ≡ 0))
-  balanced-iff = (λ b. (b .zero-xor, columns-zero b), λ e. balanced (e .0) (e .1))
+  balanced-iff = (
+    λ b. let e = evens-iff .0 b in (e .0, columns-zero (e .1)),
+    λ e. evens-iff .1 (e .0, bb-columns (e .1)),
+  )
+
+  -- ---- and as copies of the bars have them
+  pub balanced-pairs : z < 2 ^ n → Below (2 ^ n) Y → Balanced n z Y ↔ ((xorAll Y ≡ 0) × (xorAll (map (barPairs n z t) Y) ≡ 0))
+  unfolding barPairs
+  balanced-pairs fits below =
+      let same = pairs-even n (bar z t) Y (λ i l. bar-lt n z t (getD Y i 0) fits (below i l)) in (
+        λ b. let e = evens-iff .0 b in (e .0, same .1 (e .1)),
+        λ e. evens-iff .1 (e .0, same .0 (e .1)),
+      )

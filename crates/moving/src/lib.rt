@@ -9,7 +9,6 @@ ghost use Rattle.moves.specs.CarryOut.{carryOut};
 ghost use Rattle.moves.specs.Log.{LegalCells, setOf, zOf};
 ghost use Rattle.moving.specs.Steps.{AllMade};
 use carry::flips::carry;
-use carry::legality::set_of;
 use circuit::cells::cell_at;
 use circuit::copying::put_parities;
 use circuit::limits::MOVE_CELLS;
@@ -17,6 +16,7 @@ use circuit::limits::Mark;
 use circuit::limits::MoveCell;
 use columns::table::products;
 use finder::search_by;
+use legality::set_of;
 use moves::Sought;
 
 // Makes moves on the marks until none is legal, writes each to the log, and gives their number. The product table is made once for all
@@ -39,7 +39,7 @@ pub fn make_moves(n: usize, marks: &mut [Mark], log: &mut [MoveCell]) -> usize
     }
 }
 
-// Carries out a legal move on the marks.
+// Carries out a legal move on the marks; how many of them then differ is no matter here.
 fn make_move(n: usize, marks: &mut [Mark], cells: &[MoveCell])
     requires { ⌜ Marked n (now marks) × LegalCells maxMembers n (now marks) (now cells) ⌝ }
     ensures { λ _. ⌜ now (marks .exit) ≡ carryOut (now (marks .entry)) (zOf (now (cells .entry))) (setOf (now (cells .entry))) ⌝ }

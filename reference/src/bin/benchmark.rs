@@ -1,6 +1,7 @@
 //! The proved trim beside others on the same circuits, in one run: an optimised Rust trimmer with the same search, the
 //! published search taken literally, which computes a nullspace of all conditions anew for each pair, and, where it is
-//! linked, the library before the last change (`build.rs` says how).
+//! linked, the library before the last change (`build.rs` says how). Then logs of trims, replayed move by move by the
+//! proved library, by the Rust and by the library before.
 //!
 //! Run it by `cargo run --profile benchmark --offline --bin benchmark`. Times are the shortest of several runs that take
 //! turns. Nothing is asserted of them.
@@ -8,9 +9,10 @@
 use std::hint::black_box;
 use std::time::{Duration, Instant};
 
-use sulmedra_reference::entries::trimming;
-use sulmedra_reference::fast::{self, search::search};
-use sulmedra_reference::odd_set::Marks;
+use sulmedra_reference::entries::{moves, trimming};
+use sulmedra_reference::fast::{self, replay, search::search};
+use sulmedra_reference::moves::MOVE_BYTES;
+use sulmedra_reference::odd_set::{odd_set, Marks};
 use sulmedra_reference::published;
 use sulmedra_reference::random::{marks, rows, weights, Random};
 use sulmedra_reference::trimming::LOG_BYTES;
@@ -22,6 +24,11 @@ const CIRCUITS: usize = 3;
 /// How long the turns on one circuit go on, and the fewest turns.
 const TIME_FOR_A_CIRCUIT: Duration = Duration::from_millis(40);
 const FEWEST_TURNS: usize = 3;
+
+/// The logs that are replayed, the wires of their circuits, and the turns.
+const LOGS: usize = 300;
+const WIRES_OF_LOGS: usize = 8;
+const TURNS_OF_LOGS: usize = 500;
 
 /// Who trims. The first is the one that the others are compared with.
 const TRIMMERS: &[Trimmer] = if cfg!(before) {
@@ -44,6 +51,17 @@ struct Lent {
     log: Vec<u8>,
     rust_out: Vec<u8>,
     rust_log: Vec<u8>,
+}
+
+impl Lent {
+    fn new() -> Lent {
+        Lent {
+            out: vec![0; WRITTEN_BYTES],
+            log: vec![0; LOG_BYTES],
+            rust_out: Vec::with_capacity(WRITTEN_BYTES),
+            rust_log: Vec::with_capacity(LOG_BYTES),
+        }
+    }
 }
 
 /// What came of a trim.
@@ -123,6 +141,7 @@ fn main() {
     for size in [4, 8, 12, 16, 20, 24, 28, 32, 36, 40, 48, 64, 96, 128, 160, 192, 224, 255] {
         print_line("8", &size.to_string(), &compare(8, size, &mut random));
     }
+    compare_replays();
 }
 
 impl Line {
@@ -145,12 +164,7 @@ fn compare(n: usize, size: usize, random: &mut Random) -> Line {
 
 /// The shortest times of all on one circuit.
 fn compare_one(n: usize, list: &[u8]) -> Line {
-    let mut lent = Lent {
-        out: vec![0; WRITTEN_BYTES],
-        log: vec![0; LOG_BYTES],
-        rust_out: Vec::with_capacity(WRITTEN_BYTES),
-        rust_log: Vec::with_capacity(LOG_BYTES),
-    };
+    let mut lent = Lent::new();
     let mut line = Line { circuits: 1, ..Line::default() };
     line.tallies[..TRIMMERS.len()].iter_mut().for_each(|tally| tally.time = Duration::MAX);
     let start = Instant::now();
@@ -192,4 +206,104 @@ fn print_line(wires: &str, size: &str, line: &Line) {
     let t_out: Vec<String> = tallies.iter().map(|tally| average(tally.outcome.t_out)).collect();
     let moves: Vec<String> = tallies.iter().map(|tally| average(tally.outcome.moves)).collect();
     println!("  {}; {}", t_out.join(" "), moves.join(" "));
+}
+
+/// A log, and the odd set that its moves start from.
+struct Log {
+    odd_set: Marks,
+    bytes: Vec<u8>,
+}
+
+impl Log {
+    fn moves(&self) -> usize {
+        self.bytes.len() / MOVE_BYTES
+    }
+}
+
+/// Replays all logs. Answers the sum of the numbers of marks that differ, over all moves.
+type Replayer = fn(&[Log]) -> u64;
+
+/// Who replays. The first is the one that the others are compared with.
+const REPLAYERS: &[(&str, Replayer)] = &[
+    ("proved", |logs| {
+        replay_all(logs, |n, marks, log, k| {
+            let part = moves::move_at(log, k);
+            let answer = moves::carry_out(n, marks, bytes_of(log, part));
+            (answer.number, answer.differ)
+        })
+    }),
+    ("Rust", |logs| {
+        replay_all(logs, |n, marks, log, k| {
+            let step = replay::move_at(log, k).expect("the log has the move");
+            replay::carry_out(n, marks, step).map_or_else(|fault| (fault.number, 0), |differ| (0, differ as u64))
+        })
+    }),
+    // It tells no count.
+    #[cfg(before)]
+    ("before", |logs| {
+        replay_all(logs, |n, marks, log, k| {
+            let part = moves::move_at_before(log, k);
+            (moves::carry_out_before(n, marks, bytes_of(log, part)).number, 0)
+        })
+    }),
+];
+
+fn bytes_of(log: &[u8], part: moves::Part) -> &[u8] {
+    &log[part.start as usize..][..part.length as usize]
+}
+
+/// Each log from a copy of its odd set on. `carry` looks move k of a log up and carries it out on the marks; it answers
+/// the number of the reply, and how many marks differ.
+fn replay_all(logs: &[Log], carry: impl Fn(usize, &mut [u8], &[u8], usize) -> (u64, u64)) -> u64 {
+    let mut sum = 0;
+    for log in logs {
+        let mut marks = log.odd_set;
+        for k in 0..log.moves() {
+            let (number, differ) = carry(black_box(WIRES_OF_LOGS), black_box(&mut marks), black_box(&log.bytes), k);
+            assert_eq!(number, 0, "the move is legal");
+            sum += differ;
+        }
+    }
+    sum
+}
+
+/// The logs of trims of random circuits, always the same ones. They come from the one call of the Rust's trim that is
+/// timed above: with a second call of it here the compiler would inline less, and its times would be longer.
+fn logs() -> Vec<Log> {
+    let mut random = Random::new(400);
+    let mut lent = Lent::new();
+    let mut log = || {
+        let size = random.between(30, 255);
+        let list = circuit(WIRES_OF_LOGS, size, &mut random);
+        Trimmer::Rust.trim(WIRES_OF_LOGS, &list, &mut lent);
+        Log { odd_set: odd_set(&fast::read(WIRES_OF_LOGS, &list).0.weights), bytes: lent.rust_log.clone() }
+    };
+    (0..LOGS).map(|_| log()).collect()
+}
+
+/// All logs by all, in turns; the shortest times, shared out among the moves.
+fn compare_replays() {
+    let logs = logs();
+    let counts: Vec<u64> = REPLAYERS[..2].iter().map(|(_, replayer)| replayer(&logs)).collect();
+    assert_eq!(counts[0], counts[1], "the proved library and the Rust count the same marks");
+    let mut times = vec![Duration::MAX; REPLAYERS.len()];
+    for _ in 0..TURNS_OF_LOGS {
+        for ((_, replayer), time) in REPLAYERS.iter().zip(&mut times) {
+            let start = Instant::now();
+            black_box(replayer(black_box(&logs)));
+            *time = start.elapsed().min(*time);
+        }
+    }
+    let steps = || logs.iter().flat_map(|log| log.bytes.chunks(MOVE_BYTES));
+    let moves = steps().count() as f64;
+    let members = steps().map(|step| f64::from(step[1])).sum::<f64>() / moves;
+    println!(
+        "\nReplays of {LOGS} logs of trims on {WIRES_OF_LOGS} wires: {moves} moves, {members:.1} in Y on average."
+    );
+    println!("Each move is looked up in its log and carried out. Times for a move, in nanoseconds:\n");
+    println!("{:>9}  {:>9}  {:>9}", "", "time", "/ proved");
+    for ((name, _), time) in REPLAYERS.iter().zip(&times) {
+        let (time, first) = (time.as_secs_f64(), times[0].as_secs_f64());
+        println!("{name:>9}  {:9.1}  {:9.2}", time * 1e9 / moves, time / first);
+    }
 }

@@ -10,17 +10,20 @@ use crate::moves::{self, Move, MOVE_BYTES};
 use crate::odd_set::{size, Marks};
 use crate::random::Random;
 
-/// Carries out a move with the entry. Answers the marks it left, or its refusal.
+/// Carries out a move with the entry. The number of marks that it says differ is held against the whole tables before
+/// and after. Answers the marks it left, or its refusal.
 pub fn carry_out(n: usize, marks: &[u8], step: &[u8], random: &mut Random) -> Result<Marks, Reply> {
     let mut lent_marks = Lent::holding(marks, random);
     let lent_step = Lent::holding(step, random);
 
-    let reply = entries::carry_out(n, lent_marks.part_mut(), lent_step.part());
+    let answer = entries::carry_out(n, lent_marks.part_mut(), lent_step.part());
 
     let due = faults::carry_out_reply(n, marks, step);
+    let reply = Reply { number: answer.number, place: answer.place };
     assert_eq!(reply, due, "reply for n = {n}, move {step:?}, marks {marks:?}");
     assert!(lent_step.is_untouched(), "the move is only read");
     if due != Reply::DONE {
+        assert_eq!(answer.differ, 0, "refusal {due:?} tells a count, n = {n}, move {step:?}");
         assert!(lent_marks.is_untouched(), "refusal {due:?} left a mark, n = {n}, move {step:?}, marks {marks:?}");
         return Err(reply);
     }
@@ -28,6 +31,9 @@ pub fn carry_out(n: usize, marks: &[u8], step: &[u8], random: &mut Random) -> Re
     let before: &Marks = marks.try_into().expect("accepted marks are 256");
     let after: Marks = lent_marks.part().try_into().expect("256 marks were lent");
     let step = Move::from_bytes(step).expect("accepted bytes are a move");
+    let (differ, most) = (answer.differ as usize, 2 * step.y.len() + 1);
+    assert!(differ <= most, "{differ} differ, at most {most} can, for n = {n}, {step:?}, marks {marks:?}");
+    assert_eq!(differ, moves::differing(before, &after), "marks that differ for n = {n}, {step:?}, marks {marks:?}");
     assert_eq!(after, moves::carry_out(before, &step), "marks for n = {n}, {step:?}, marks {marks:?}");
     assert_eq!(signature(n, &after), signature(n, before), "signature for n = {n}, {step:?}, marks {marks:?}");
     assert!(size(&after) < size(before), "size for n = {n}, {step:?}, marks {marks:?}");
@@ -63,22 +69,20 @@ pub fn find(n: usize, marks: &[u8], step_len: usize, random: &mut Random) -> Res
     Ok(found)
 }
 
-/// Asks the entry for the part of a log that move k takes. Answers whether there is one.
-pub fn move_at(log: &[u8], k: usize, random: &mut Random) -> bool {
+/// Asks the entry for the part of a log that move k takes. Answers where it starts, or None if it is empty.
+pub fn move_at(log: &[u8], k: usize, random: &mut Random) -> Option<usize> {
     let lent_log = Lent::holding(log, random);
 
     let part = entries::move_at(lent_log.part(), k);
 
     assert!(lent_log.is_untouched(), "the log is only read");
-    match moves::part_of_log(log.len(), k) {
+    let due = moves::part_of_log(log.len(), k);
+    match due {
         Some(start) => {
             assert_eq!((part.start, part.length), (start as u64, MOVE_BYTES as u64), "move {k} of {} bytes", log.len());
-            true
         }
         // Where an empty part starts says nothing.
-        None => {
-            assert_eq!(part.length, 0, "move {k} of {} bytes", log.len());
-            false
-        }
+        None => assert_eq!(part.length, 0, "move {k} of {} bytes", log.len()),
     }
+    due
 }

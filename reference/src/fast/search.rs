@@ -66,7 +66,7 @@ fn scan_wire(
 }
 
 #[inline]
-fn is_member(marks: &Marks, p: u8) -> bool {
+pub(super) fn is_member(marks: &Marks, p: u8) -> bool {
     marks[usize::from(p)] == 1
 }
 
@@ -110,7 +110,7 @@ fn all_grow(mut filled: u64, room: &mut Vectors, columns: impl Iterator<Item = u
 const PRODUCT_BITS: usize = 36;
 
 /// For i ≤ j, bit j(j+1)/2 + i of entry p is set when p names both.
-static PRODUCTS: [u64; 256] = products();
+pub(super) static PRODUCTS: [u64; 256] = products();
 
 const fn products() -> [u64; 256] {
     let mut table = [0; 256];

@@ -7,7 +7,7 @@ use denote.Ref.{now}
 use Rattle.circuit.specs.TableFaults.{Marked, callFault, marksFault}
 use Rattle.moves.proofs.Logs.{cells-checked}
 use Rattle.moves.proofs.Answers.{denied, granted}
-use Rattle.carry.proofs.Ways.{call-clear, call-refused, may-carry, move-done, move-refused}
+use Rattle.carry.proofs.Ways.{call-clear, call-refused, may-carry, move-done, move-refused, sound-on-all}
 use Rattle.carry.specs.Entry.{carryFault}
 use Rattle.carry.proofs.carry_out.Statement.{statement}
 use Rattle.carry.proofs.carry_out.Tie as tie
@@ -29,7 +29,7 @@ marked : (f : tie.After-marks-call-fault) → f .marks-call-fault .result ≡ 0 
 marked f clear = call-clear _ _ .0 (sym (fault-is f) ∙ clear)
 
 is-move-requires : tie.Need-is-move-requires
-is-move-requires c κs = marked (search) (search) .sound .long
+is-move-requires c κs = sound-on-all (marked (search) (search))
 
 returns-2 : tie.Need-returns-2
 returns-2 c =
@@ -51,7 +51,7 @@ carry-requires c κs =
     let y : tie.After-set-of = search in
     let z : tie.After-cell-at = search in
     let m : tie.After-is-move = search in
-    may-carry (granted (m .is-move .ensures) (search)) (marked (search) (search) .sound .long) (z .cell-at .ensures) (y .set-of .ensures)
+    may-carry (granted (m .is-move .ensures) (search)) (sound-on-all (marked (search) (search))) (z .cell-at .ensures) (y .set-of .ensures)
 
 same-length-3 : tie.Need-same-length-3
 same-length-3 c = let d : tie.After-carry = search in d .carry .kept .0

@@ -14,4 +14,4 @@ returns c =
     column-is _ _ _ _ (subst (λ (x : ℕ). ProductEntry x (p .product .result)) (b .bar .ensures .0) (p .product .ensures))
 
 pub column-spec : {M : Type 1} → statement M
-column-spec = tie.close (tie.spec (λ c κs. search needs) (λ c κs. search needs) returns)
+column-spec = tie.close (tie.spec (λ c κs. search needs) (λ c. search needs) (λ c κs. search needs) returns)

@@ -2,7 +2,7 @@
 use mathlib.Core.Path.{_∙_, ap₂}
 use native.Mathlib.Omega.{arith}
 use denote.Ref.{now}
-use Rattle.carry.proofs.Ways.{may-carry}
+use Rattle.carry.proofs.Ways.{may-carry, sound-on-all}
 use Rattle.circuit.specs.Limits.{maxWires}
 use Rattle.moves.proofs.Logs.{cells-checked}
 use Rattle.moves.proofs.Wires.{cells-wires}
@@ -23,7 +23,7 @@ carry-requires c κs =
     let s : tie.Start = search in
     let m = s .pre .0 in
     let legal = cells-wires _ _ maxWires _ _ (m .few) (m .sound) _ .0 (s .pre .1) in
-    may-carry legal (m .sound .long) (z .cell-at .ensures) (y .set-of .ensures)
+    may-carry legal (sound-on-all m) (z .cell-at .ensures) (y .set-of .ensures)
 
 same-length : tie.Need-same-length
 same-length c =
@@ -36,7 +36,7 @@ returns c =
     let y : tie.After-set-of = search in
     let z : tie.After-cell-at = search in
     let s : tie.Start = search in
-    m .carry .ensures ∙ ap₂ (carryOut (now (s .args .marks))) (z .cell-at .ensures) (y .set-of .ensures)
+    m .carry .ensures .are ∙ ap₂ (carryOut (now (s .args .marks))) (z .cell-at .ensures) (y .set-of .ensures)
 
 pub make-move-spec : {M : Type 1} → statement M
 make-move-spec =
