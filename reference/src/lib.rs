@@ -12,6 +12,7 @@
 //!   exists, and the smallest z, by solving its conditions.
 //! - [`writing`], [`trimming`]: what must hold of a written list, and of a trim: demand 3 and the smallest z.
 //! - [`text`]: the text form, split at its newlines. [`printing`]: what the program prints for a text.
+//! - [`again`]: what must hold of the trim of a trim, and of the reply to a reply.
 //! - [`faults`]: the table of faults and the order of checks.
 //! - [`demands`]: what must hold of any answer, whatever made it.
 //! - [`entries`]: the proved library's C functions. [`program`]: the proved program, run as a process.
@@ -26,6 +27,7 @@
 //! `moves`, `writing`, `trim`, `text`, and `program` for the whole reply to a text, in C and by the program, which
 //! `rt check trim` makes. Tests named `own_` call no C function: there the reference is held against itself.
 
+pub mod again;
 pub mod coefficients;
 pub mod comparison;
 pub mod demands;

@@ -52,11 +52,9 @@ pub fn reply(printed: &Printed) -> Vec<u8> {
 /// bytes again.
 pub fn read_reply(bytes: &[u8]) -> Result<Printed, String> {
     let shown = || String::from_utf8_lossy(&bytes[..bytes.len().min(400)]).into_owned();
-    let lines: Vec<&[u8]> = bytes.split_inclusive(|byte| *byte == b'\n').collect();
-    let [first, second, gates @ ..] = &lines[..] else { return Err(format!("too few lines: {:?}", shown())) };
-    let form = [&[*first], gates].concat().concat();
+    let [first, second, gates] = parts(bytes).ok_or_else(|| format!("too few lines: {:?}", shown()))?;
     let Parsed { n, gates } =
-        text::read(&form, TEXT_GATES_BYTES).map_err(|fault| format!("{fault:?}: {:?}", shown()))?;
+        text::read(&[first, gates].concat(), TEXT_GATES_BYTES).map_err(|fault| format!("{fault:?}: {:?}", shown()))?;
     let numbers = numbers_of(second).ok_or_else(|| format!("no counts: {:?}", shown()))?;
     let [t_in, odd_size, t_out, moves] = numbers[..] else { return Err(format!("not four counts: {:?}", shown())) };
     let counts = Counts { t_in, odd_size, t_out, moves, gates: gates.len() / GATE_BYTES };
@@ -82,6 +80,13 @@ pub fn check_printed(text: &[u8], printed: &[u8]) -> Result<Result<Printed, Faul
     check_without_log(circuit.n, &circuit.gates, &said.gates, &said.counts)?;
     check_written(circuit.n, &reading::read(circuit.n, &said.gates), &said.gates)?;
     Ok(Ok(said))
+}
+
+/// The first line of a reply, its second, and all after them, if it has both.
+pub(crate) fn parts(bytes: &[u8]) -> Option<[&[u8]; 3]> {
+    let mut lines = bytes.split_inclusive(|byte| *byte == b'\n');
+    let (first, second) = (lines.next()?, lines.next()?);
+    Some([first, second, &bytes[first.len() + second.len()..]])
 }
 
 /// The numbers of a line, in hex, whatever stands between them.

@@ -3,6 +3,7 @@
 
 use crate::demands::are_invertible;
 use crate::existence::separating;
+use crate::fast;
 use crate::gates::{CNOT, GATE_BYTES, MOST_WIRES, PHASE_KINDS, S, S_DAGGER, T, T_DAGGER, Z};
 use crate::moves::{is_legal, members, Move, MOST_IN_Y, MOVE_BYTES};
 use crate::odd_set::Marks;
@@ -139,6 +140,16 @@ pub fn rows(random: &mut Random, n: usize) -> Rows {
             return rows;
         }
     }
+}
+
+/// A circuit with an odd set of exactly `size` members, and with even weights and other rows beside it.
+pub fn circuit_of_odd_set(random: &mut Random, n: usize, size: usize) -> Vec<u8> {
+    let odd = marks(random, n, size);
+    let mut table = weights(random, n);
+    for (weight, mark) in table.iter_mut().zip(odd) {
+        *weight = *weight & 6 | mark;
+    }
+    fast::write(n, &table, &rows(random, n))
 }
 
 /// Even weights added at random to a weight table: the odd set and the signature stay.

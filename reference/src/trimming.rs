@@ -87,7 +87,7 @@ fn same_on_every_state(n: usize, c: &[u8], d: &[u8]) -> Result<(), String> {
     Ok(())
 }
 
-fn demand(holds: bool, amiss: impl FnOnce() -> String) -> Result<(), String> {
+pub(crate) fn demand(holds: bool, amiss: impl FnOnce() -> String) -> Result<(), String> {
     if holds {
         Ok(())
     } else {

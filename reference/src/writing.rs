@@ -1,9 +1,9 @@
-//! What must hold of a written list (demand 2; document 01, "The new weights"; document 02, 2.6), and a plain list for
-//! given weights.
+//! What must hold of a written list (demand 2; document 01, "The new weights"; document 02, 2.6); a plain list for
+//! given weights, and rows to try.
 
 use crate::faults;
 use crate::gates::{gates_of, CNOT, GATE_BYTES, S, S_DAGGER, T, T_DAGGER};
-use crate::reading::{self, PhaseGate, Reading, Weights};
+use crate::reading::{self, PhaseGate, Reading, Rows, Weights};
 
 /// The fewest bytes that may be lent for a written list.
 pub const WRITTEN_BYTES: usize = 6336;
@@ -84,4 +84,23 @@ pub fn plain_list(weights: &Weights) -> Vec<u8> {
         list.extend(&gather);
     }
     list
+}
+
+/// Rows that leave every wire as it was.
+pub fn same_wires(n: usize) -> Rows {
+    std::array::from_fn(|wire| if wire < n { 1 << wire } else { 0 })
+}
+
+/// Rows that take every CNOT that rows can take, found backwards from rows that are in place: each row brings its own
+/// wire in and all others out, but the last, which cannot lack its own wire.
+pub fn costliest_rows(n: usize) -> Rows {
+    let mut rows = same_wires(n);
+    for own in (0..n).rev() {
+        let others = ((1u16 << n) - 1) as u8 ^ 1 << own;
+        rows.iter_mut().filter(|row| **row >> own & 1 == 1).for_each(|row| *row ^= others);
+        if own + 1 < n {
+            rows.iter_mut().filter(|row| **row >> (own + 1) & 1 == 1).for_each(|row| *row ^= 1 << own);
+        }
+    }
+    rows
 }

@@ -14,8 +14,7 @@ use sulmedra_reference::faults::Fault;
 use sulmedra_reference::gates::{GATE_BYTES, MOST_GATES};
 use sulmedra_reference::printing::{Printed, READ_BYTES, REPLY_BYTES};
 use sulmedra_reference::program::{run, run_after, run_on_file, run_on_pieces, run_without_end, unread_pipe, Ended};
-use sulmedra_reference::random::{circuit, marks, rows, weights, Random};
-use sulmedra_reference::reading::read;
+use sulmedra_reference::random::{circuit, circuit_of_odd_set, rows, weights, Random};
 use sulmedra_reference::text::write;
 use sulmedra_reference::texts::{crossed_out, damage, noise, Told, MALFORMED, NO_WIRE_COUNTS, ONE_LINE_MORE};
 use sulmedra_reference::trimming::Counts;
@@ -124,12 +123,7 @@ fn texts_of_chosen_odd_sets() {
     for n in 2..=8 {
         let most = (1 << n) - 1;
         for size in [most, most / 2, random.between(0, most), random.between(0, most)] {
-            let odd = marks(&mut random, n, size);
-            let mut table = weights(&mut random, n);
-            for (weight, mark) in table.iter_mut().zip(odd) {
-                *weight = *weight & 6 | mark;
-            }
-            let text = write(n, &fast::write(n, &table, &rows(&mut random, n)));
+            let text = write(n, &circuit_of_odd_set(&mut random, n, size));
             let printed = both(&text, &mut random).expect("accepted");
             assert_eq!(printed.counts.odd_size, size);
             moves += printed.counts.moves;
@@ -446,21 +440,6 @@ fn a_reply_that_is_cut_off() {
 fn arguments() {
     let ended = fourteen_after("exec \"$0\" --help examples", Stdio::piped());
     by_itself(ended, FOURTEEN_PRINTED, "", "--help");
-}
-
-/// What was printed, without its second line, is a text again. Trimmed once more it is left alone.
-#[test]
-fn a_second_trim_makes_no_move() {
-    let mut random = Random::new(318);
-    for n in 1..=8 {
-        for _ in 0..10 {
-            let length = random.between(0, 300);
-            let once = answer(&write(n, &circuit(&mut random, n, length)), &mut random).said.expect("accepted");
-            let twice = answer(&write(n, &once.gates), &mut random).said.expect("accepted");
-            assert_eq!((twice.counts.moves, twice.counts.t_out), (0, once.counts.t_out), "n = {n}");
-            assert_eq!(read(n, &twice.gates), read(n, &once.gates), "n = {n}");
-        }
-    }
 }
 
 /// Outputs one byte short and shorter are refused with 8, whatever the text is; longer ones keep their rest.

@@ -5,12 +5,12 @@ use sulmedra_reference::comparison::trimming::{trim, trim_into};
 use sulmedra_reference::entries::Reply;
 use sulmedra_reference::existence::smallest_z_of_pairs;
 use sulmedra_reference::gates::{GATE_BYTES, MOST_GATES, T, T_DAGGER};
+use sulmedra_reference::moves;
 use sulmedra_reference::odd_set::odd_set;
-use sulmedra_reference::random::{circuit, marks, rows, weights, Random};
+use sulmedra_reference::random::{circuit, circuit_of_odd_set, Random};
 use sulmedra_reference::reading::read;
 use sulmedra_reference::trimming::Counts;
 use sulmedra_reference::writing::plain_list;
-use sulmedra_reference::{fast, moves};
 
 fn refused(number: u64, place: usize) -> Reply {
     Reply { number, place: place as u64 }
@@ -113,30 +113,9 @@ fn circuits_of_chosen_odd_sets() {
         let mut sizes = vec![most, most - 1, most / 2];
         sizes.extend((0..8).map(|_| random.between(0, most)));
         for size in sizes {
-            let odd = marks(&mut random, n, size);
-            let mut table = weights(&mut random, n);
-            for (weight, mark) in table.iter_mut().zip(odd) {
-                *weight = *weight & 6 | mark;
-            }
-            let list = fast::write(n, &table, &rows(&mut random, n));
+            let list = circuit_of_odd_set(&mut random, n, size);
             let counts = accept(n, &list, &mut random);
             assert_eq!(counts.odd_size, size);
-        }
-    }
-}
-
-/// A circuit trimmed once is trimmed for good: no move is left.
-#[test]
-fn a_second_trim_makes_no_move() {
-    let mut random = Random::new(269);
-    for n in 1..=8 {
-        for _ in 0..15 {
-            let length = random.between(0, 400);
-            let list = circuit(&mut random, n, length);
-            let once = trim(n, &list, &mut random).expect("accepted");
-            let twice = trim(n, &once.gates, &mut random).expect("what was written is accepted");
-            assert_eq!((twice.counts.moves, twice.counts.t_out), (0, once.counts.t_out), "n = {n}, list {list:?}");
-            assert_eq!(read(n, &twice.gates), read(n, &once.gates), "n = {n}, list {list:?}");
         }
     }
 }

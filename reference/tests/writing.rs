@@ -4,16 +4,10 @@ use sulmedra_reference::comparison::writing::write;
 use sulmedra_reference::entries::Reply;
 use sulmedra_reference::gates::GATE_BYTES;
 use sulmedra_reference::random::{rows, weights, Random};
-use sulmedra_reference::reading::Rows;
-use sulmedra_reference::writing::most_written;
+use sulmedra_reference::writing::{costliest_rows, most_written, same_wires};
 
 fn refused(number: u64) -> Reply {
     Reply { number, place: 0 }
-}
-
-/// Rows that leave every wire as it was.
-fn same_wires(n: usize) -> Rows {
-    std::array::from_fn(|wire| if wire < n { 1 << wire } else { 0 })
 }
 
 #[test]
@@ -68,20 +62,6 @@ fn random_weights_and_rows() {
             assert!(write(n, &table, &wanted, lent, &mut random).is_ok());
         }
     }
-}
-
-/// Rows that take every CNOT that rows can take, found backwards from rows that are in place: each row brings its own
-/// wire in and all others out, but the last, which cannot lack its own wire.
-fn costliest_rows(n: usize) -> Rows {
-    let mut rows = same_wires(n);
-    for own in (0..n).rev() {
-        let others = ((1u16 << n) - 1) as u8 ^ 1 << own;
-        rows.iter_mut().filter(|row| **row >> own & 1 == 1).for_each(|row| *row ^= others);
-        if own + 1 < n {
-            rows.iter_mut().filter(|row| **row >> (own + 1) & 1 == 1).for_each(|row| *row ^= 1 << own);
-        }
-    }
-    rows
 }
 
 /// Weights that take two gates on every parity, and the costliest rows: one gate less than document 01's limit, which

@@ -163,6 +163,7 @@ static void answering(void)
     answers("answer: T, T is S", lend_text("01\n020000\n020000\n"), "01\n0002 0000 0000 0000\n030000\n");
     answers("answer: Z is S, S", lend_text("01\n040000\n"), "01\n0000 0000 0000 0000\n030000\n030000\n");
     answers("answer: the fourteen-T block", lend_text(fourteen), "04\n000e 000e 0001 0001\n060000\n");
+    answers("answer: what is left of it, without the counts", lend_text("04\n060000\n"), "04\n0001 0001 0001 0000\n060000\n");
     answers("answer: fault 1", lend_text("09\n"), "refused 01 0000\n");
     answers("answer: fault 3", lend_text("01\n020000\n070000\n"), "refused 03 0001\n");
     answers("answer: fault 4", lend_text("01\n020100\n"), "refused 04 0000\n");

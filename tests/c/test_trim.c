@@ -79,11 +79,27 @@ static void log_leads_there(const trim_call *call)
     CHECK(sulmedra_find(call->n, last.at, sizeof last.at, move, sizeof move).found == 0);
 }
 
+/* What was written is a circuit to trim like any other. With as much lent as before, all of it stays. */
+static void stays_when_trimmed_again(const trim_call *call)
+{
+    trim_call again = call_trim(call->n, call->out.bytes, written(call), call->out.len, call->log.len);
+    CHECK(again.reply.number == SULMEDRA_DONE);
+    CHECK(again.reply.place == 0);
+    CHECK(again.reply.t_in == call->reply.t_out);
+    CHECK(again.reply.odd_size == call->reply.t_out);
+    CHECK(again.reply.t_out == call->reply.t_out);
+    CHECK(again.reply.moves == 0);
+    CHECK(again.reply.gates == call->reply.gates);
+    CHECK(starts_with(&again.out, call->out.bytes, written(call)));
+    CHECK(untouched(&again.log));
+}
+
 static void trimmed(const trim_call *call)
 {
     has_its_counts(call);
     acts_as_before(call);
     log_leads_there(call);
+    stays_when_trimmed_again(call);
     CHECK(rack_runs(call->out.bytes, written(call)));
     CHECK(untouched_after(&call->out, written(call)));
     CHECK(untouched_after(&call->log, SULMEDRA_MOVE_BYTES * call->reply.moves));

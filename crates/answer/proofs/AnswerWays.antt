@@ -83,7 +83,15 @@ module _ {n : ℕ} {g list log : List ℕ} (lent : Lent n g list log) where
           let D = frontGates (counts .gates) list′ in (
             trimLines n counts D,
             subst (λ (v : Reply). PrintsGates v n (gatesOf g) (trimLines n counts D)) (sym (done .0))
-                (record { D = D; log = log′; counts = counts; trimmed = done .1 .trimmed; written = done .1 .written; lines = refl }),
+                (record {
+                  D = D;
+                  log = log′;
+                  counts = counts;
+                  trimmed = done .1 .trimmed;
+                  written = done .1 .written;
+                  alone = done .1 .alone;
+                  lines = refl;
+                }),
             w,
           )
 

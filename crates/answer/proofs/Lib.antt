@@ -1,2 +1,3 @@
 pub mod AnswerWays
 pub mod AnswerLaws
+pub mod AnswerAgain

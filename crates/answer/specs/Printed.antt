@@ -10,7 +10,7 @@ use Rattle.text.specs.Text.{Text, circuit, faulty}
 use Rattle.text.specs.Written.{countsLine, gateLines, refusedLine, wiresLine}
 use Rattle.trimmed.specs.Trimmed.{Trimmed}
 use Rattle.trimmed.specs.declared.Counts.{Counts}
-use Rattle.trimmer.specs.Entry.{Writes-for}
+use Rattle.trimmer.specs.Entry.{Chosen-for, Writes-for}
 
 -- n, then T in, odd set size, T out and moves, then the gates
 abbrev pub trimLines : ℕ → Counts → List Gate → List ℕ
@@ -22,8 +22,9 @@ pub record PrintsTrim (n : ℕ) (C : List Gate) (bytes : List ℕ) : Type 0 wher
   pub log : List ℕ
   pub counts : Counts
   pub trimmed : Trimmed n C D log counts
-  -- written as any list is, for the new weights and the rows of C
+  -- written as any list is, for the new weights and the rows of C, and by these alone
   pub written : Writes-for n C D
+  pub alone : Chosen-for n C D
   pub lines : bytes ≡ trimLines n counts D
 
 -- what is printed for gates, by their first fault: its line and nothing else, or the lines of a trim

@@ -76,3 +76,10 @@ length-gates [] w = refl
 length-gates (kind ∷ []) w = absurd (omega arith)
 length-gates (kind ∷ a ∷ []) w = absurd (omega arith)
 length-gates (kind ∷ a ∷ b ∷ bytes) w = omega (arith, length-gates bytes (omega arith))
+
+pub bytes-of-gates : (bytes : List ℕ) → length bytes % gateBytes ≡ 0 → bytesOf (gatesOf bytes) ≡ bytes
+unfolding gatesOf bytesOf
+bytes-of-gates [] w = refl
+bytes-of-gates (kind ∷ []) w = absurd (omega arith)
+bytes-of-gates (kind ∷ a ∷ []) w = absurd (omega arith)
+bytes-of-gates (kind ∷ a ∷ b ∷ bytes) w = ap (λ (l : List ℕ). kind ∷ a ∷ b ∷ l) (bytes-of-gates bytes (omega arith))

@@ -10,6 +10,7 @@ use Rattle.circuit.proofs.Invertible.{distinct-independent, independent
 use Rattle.circuit.proofs.Judging.{call-number, first-refused, refused-first, zero-done}
 use Rattle.circuit.proofs.OddSet.{odd-set-at-most-t, t-moves-one}
 use Rattle.circuit.proofs.ReadRuns.{read-runs}
+use Rattle.circuit.proofs.SameRows.{alike-same-rows}
 use Rattle.circuit.proofs.Sound.{read-sound}
 use Rattle.circuit.specs.Faults.{AllWellFormed, FirstFault, WellFormed, callReply, firstFault}
 use Rattle.circuit.specs.Gate.{Gate, gate, isT, tGates}
@@ -18,7 +19,7 @@ use Rattle.circuit.specs.Limits.{rowCells, tableBytes, writeBytes}
 use Rattle.circuit.specs.OddSet.{memberCount, oddSet}
 use Rattle.circuit.specs.Read.{read}
 use Rattle.circuit.specs.Replies.{numberOf}
-use Rattle.circuit.specs.Run.{run}
+use Rattle.circuit.specs.Run.{SameAction, run}
 use Rattle.circuit.specs.Says.{endState, says}
 use Rattle.circuit.specs.Sound.{SoundReading}
 use Rattle.circuit.specs.declared.Reply.the-variants.{Done, Refused}
@@ -38,6 +39,11 @@ reading-is-sound = read-sound
 pub independent-exactly : (n : ℕ) (rows : List ℕ) → ((i : ℕ) → getD rows i 0 < 2 ^ n)
     → Independent n rows ↔ ((x y : ℕ) → x < 2 ^ n → y < 2 ^ n → endState n rows x ≡ endState n rows y → x ≡ y)
 independent-exactly n rows within = (independent-distinct n rows within, distinct-independent n rows)
+
+-- lists that act alike have the same rows
+pub same-action-same-rows : (N n : ℕ) → n ≤ N → (C D : List Gate) → AllWellFormed n C → AllWellFormed n D → SameAction n C D
+    → read N n D .rows ≡ read N n C .rows
+same-action-same-rows = alike-same-rows
 
 -- one T or T dagger put anywhere moves the size of the odd set by exactly one, up or down
 pub one-t-moves-one : (N n : ℕ) → n ≤ N → (xs ys : List Gate) (kind a b : ℕ) → AllWellFormed n xs → AllWellFormed n ys

@@ -6,6 +6,7 @@ pub mod GateKinds
 pub mod Sound
 pub mod ReadRuns
 pub mod Invertible
+pub mod SameRows
 pub mod OddSet
 pub mod Judging
 pub mod TableRule

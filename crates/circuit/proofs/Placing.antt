@@ -1,11 +1,11 @@
 -- Bytes stored one after the other in a lent buffer.
 use mathlib.Core.List.{List, [], _∷_, _++_, append-nil}
-use mathlib.Core.Path.{_∙_, _≡_, ap, refl, subst, sym}
+use mathlib.Core.Path.{_∙_, _≡_, ap, ap₂, refl, subst, sym}
 use Prim.Native.Nat.{_+_, _<_, _≤_, suc, ℕ}
 use native.Mathlib.Nat.{le-refl, zero-add}
 use native.Mathlib.Numerals.{add-one, add-two}
 use native.Mathlib.Omega.{arith}
-use lib.ListN.{drop, drop-of-length-le, getD, length, set, take}
+use lib.ListN.{drop, drop-of-length-le, getD, length, set, take, take-append-drop}
 use lib.Seq.{drop-drop, drop-paste, length-paste, paste, paste-suc, sets, sets-eq, take-length}
 use Rattle.circuit.specs.Lent.{KeptFrom, placed}
 
@@ -65,3 +65,10 @@ kept-placed {before} {was} {at} k these h =
 pub placed-kept : (was these : List ℕ) → length these ≤ length was → KeptFrom (length these) was (placed was 0 these)
 placed-kept was these h =
     subst (λ (k : ℕ). KeptFrom k was (placed was 0 these)) (zero-add (length these)) (kept-placed (kept-all was) these (omega arith))
+
+-- and what was kept, with these in front of it, is all there is
+pub front-placed : {k : ℕ} {was left : List ℕ} → KeptFrom k was left → (these : List ℕ) → k ≡ length these → take k left ≡ these
+    → left ≡ placed was 0 these
+front-placed {k} {was} {left} kept these long front =
+    sym (take-append-drop k left) ∙ ap₂ _++_ front (kept .kept)
+    ∙ ap (λ (j : ℕ). these ++ drop j was) (long ∙ sym (zero-add (length these)))

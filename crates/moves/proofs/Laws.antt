@@ -2,7 +2,7 @@
 -- The proofs are in the modules named.
 use mathlib.Core.List.{List, map}
 use mathlib.Core.Logic.{_↔_}
-use mathlib.Core.Path.{_≡_, refl}
+use mathlib.Core.Path.{_∙_, _≡_, refl, sym}
 use Prim.Native.Nat.{_*_, _+_, _/_, _<_, _^_, _≤_, ℕ}
 use native.Mathlib.Omega.{arith}
 use lib.Dec.{T}
@@ -18,11 +18,12 @@ use Rattle.moves.proofs.Bound.{bound}
 use Rattle.moves.proofs.Deciding.{move-decided}
 use Rattle.moves.proofs.Differing.{differing-few}
 use Rattle.moves.proofs.Keep.{keeps, sound-kept}
-use Rattle.moves.proofs.Logs.{cells-unique}
+use Rattle.moves.proofs.Logs.{cells-unique, logged-length}
 use Rattle.moves.proofs.OneXor.{balanced-iff, balanced-pairs}
 use Rattle.moves.proofs.Pairs.{none-tagged}
 use Rattle.moves.proofs.Products.{product-bit, product-by-bits, product-lt, tri-mono, tri-square}
-use Rattle.moves.proofs.Replaying.{replays-held, replays-one-number, replays-shrinks, replays-signature, smallest-one-z}
+use Rattle.moves.proofs.Replaying.{replays-held, replays-one-number, replays-shrinks, replays-signature, replays-stay}
+use Rattle.moves.proofs.Replaying.{smallest-one-z}
 use Rattle.moves.proofs.Shrink.{shrinks}
 use Rattle.moves.proofs.Wires.{legal-wires}
 use Rattle.moves.specs.CarryOut.{carryOut, differing}
@@ -125,6 +126,13 @@ one-number = replays-one-number
 
 pub log-holds : (most n size : ℕ) (log m : List ℕ) (k : ℕ) (m′ : List ℕ) → Replays most n m (logged size log k) m′ → size * k ≤ length log
 log-holds = replays-held
+
+-- from marks without a legal move a log makes none, and they stay (document 02, 2.2)
+pub none-legal-stays : (most n size : ℕ) (log m : List ℕ) (k : ℕ) (m′ : List ℕ) → NoneLegal most n m
+    → Replays most n m (logged size log k) m′ → (k ≡ 0) × (m ≡ m′)
+none-legal-stays most n size log m k m′ none r =
+    let s = replays-stay most n m (logged size log k) m′ none r in
+    (sym (logged-length size k log) ∙ s .0, s .1)
 
 -- ---- the limits
 

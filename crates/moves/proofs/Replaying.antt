@@ -127,6 +127,13 @@ module _ (most n : ℕ) where
       let t = replays-next (carryOut m (r .0 .z) (r .0 .Y)) moves cells later b (r .1) in
       (t .0, (r .0, t .1), t .2)
 
+  -- from marks without a legal move no move is made, and they stay
+  pub replays-stay : (m : List ℕ) (moves : List (List ℕ)) (m′ : List ℕ) → NoneLegal most n m → Replays most n m moves m′
+      → (length moves ≡ 0) × (m ≡ m′)
+  unfolding Replays
+  replays-stay m [] m′ none r = (refl, r)
+  replays-stay m (cells ∷ moves) m′ none r = let f : LegalCells most n m cells = r .0 in absurd (none (f .z) (f .Y) (f .legal))
+
   module _ (size : ℕ) (log m : List ℕ) where
     -- a log that leads to marks without a legal move goes on no further
     ends-there : (k d : ℕ) (a b : List ℕ) → NoneLegal most n a → Replays most n m (logged size log k) a

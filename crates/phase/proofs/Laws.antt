@@ -2,7 +2,7 @@
 -- The definitions are in specs/, the proofs in the modules named.
 use mathlib.Core.List.{List}
 use mathlib.Core.Logic.{_↔_}
-use mathlib.Core.Path.{_≡_}
+use mathlib.Core.Path.{_≡_, refl, sym}
 use Prim.Native.Nat.{_<_, _^_, ℕ, _≤_}
 use Rattle.circuit.specs.OddSet.{oddSet}
 use Rattle.circuit.specs.Says.{phaseAt}
@@ -10,7 +10,7 @@ use Rattle.circuit.specs.Sound.{SoundMarks, SoundWeights}
 use Rattle.phase.proofs.ByCoefficients.{phase-by-coefficients, same-phases}
 use Rattle.phase.proofs.Converse.{coefficients-back, phases-iff}
 use Rattle.phase.proofs.Lists.{marks-weights, odd-sound}
-use Rattle.phase.proofs.NewWeights.{new-oddSet, new-phases, new-shape, new-sound}
+use Rattle.phase.proofs.NewWeights.{even-shape, new-oddSet, new-phases, new-shape, new-sound, own-even}
 use Rattle.phase.proofs.Signature.{oddSet-sums, signature-iff}
 use Rattle.phase.proofs.Sums.{SameSums, signature-sums}
 use Rattle.phase.proofs.Unique.{added-is, new-unique}
@@ -76,3 +76,12 @@ module _ (size n : ℕ) (room : 2 ^ n ≤ size) where
     pub new-weights-unique : (v : List ℕ) → SoundWeights size n v → MarksAndRest n marks v → SamePhases n v w
         → v ≡ newWeights size n w marks
     new-weights-unique v = new-unique size n room w marks v (marks-weights size n marks sound)
+
+    -- (f) where the marks are the odd set of the new weights, these are their own new weights: found once more, nothing moves
+    -- (document 02, 2.2)
+    pub new-weights-again : oddSet (newWeights size n w marks) ≡ marks
+        → newWeights size n (newWeights size n w marks) marks ≡ newWeights size n w marks
+    new-weights-again own =
+        let new : List ℕ = newWeights size n w marks in
+        let shape : MarksAndRest n marks new = even-shape size n w marks (own-even size n w marks (sound .bits) own) in
+        sym (new-unique size n room new marks new (marks-weights size n marks sound) new-weights-sound shape (λ x h. refl))

@@ -14,7 +14,7 @@ use Rattle.gf2.specs.Sum.{sum}
 use Rattle.phase.proofs.Added.{added-c, added-l, added-q}
 use Rattle.phase.proofs.ByCoefficients.{same-phases}
 use Rattle.phase.proofs.Lists.{Wide, pad-all, pad-high, pad-length, pad-low, same-list, wide}
-use Rattle.phase.proofs.Rest.{oneRest-lt, pairRest-cases, pairRest-is, pairs-rest, rest-even, rest-many, rest-one, rest-others}
+use Rattle.phase.proofs.Rest.{oneRest-lt, pairRest-if-even, pairRest-is, pairs-rest, rest-even, rest-many, rest-one, rest-others}
 use Rattle.phase.proofs.Rest.{rest-two, rest-zero}
 use Rattle.phase.proofs.Sums.{C, L, Q, SameSums}
 use Rattle.phase.proofs.Wires.{is-one, is-two}
@@ -92,7 +92,40 @@ module _ (size n : ℕ) (room : 2 ^ n ≤ size) (w u : List ℕ) (sound : SoundW
   pub new-phases : SamePhases n (newWeights size n w u) w
   new-phases x h = same-phases n (newWeights size n w u) w new-coefficients x
 
--- from sound marks
+-- their shape, where every rest is even
+module _ (size n : ℕ) (w marks : List ℕ) (even : (p : ℕ) → p < 2 ^ n → rest n w marks p % 2 ≡ 0) where
+  pub even-shape : MarksAndRest n marks (newWeights size n w marks)
+  even-shape =
+      record {
+        added = rest n w marks;
+        is = new-low size n w marks;
+        on-one = λ p h e. (one p h e, even p h);
+        on-two = two;
+        on-others = λ p h a b. rest-others w marks n p a b;
+      }
+    where
+      one : (p : ℕ) → p < 2 ^ n → ones p ≡ 1 → rest n w marks p < 8
+      one p h e = let t = is-one n p h e in rw (t .2, rest-one w marks n (t .0) (t .1)) (oneRest-lt n w marks (t .0))
+
+      two : (p : ℕ) → p < 2 ^ n → ones p ≡ 2 → (rest n w marks p ≡ 0) ⊎ (rest n w marks p ≡ 6)
+      two p h e =
+          let t = is-two n p h e in
+          let r : rest n w marks p ≡ pairRest w marks (t .0) (t .1) =
+          ap (rest n w marks) (t .4) ∙ rest-two w marks n (t .0) (t .1) (t .2) (t .3) in
+          rw r (pairRest-if-even w marks (t .0) (t .1) (ap (λ (x : ℕ). x % 2) (sym r) ∙ even p h))
+
+-- it is even where the marks are the odd set of the new weights
+pub own-even : (size n : ℕ) (w marks : List ℕ) → ((p : ℕ) → weight marks p < 2) → oddSet (newWeights size n w marks) ≡ marks
+    → (p : ℕ) → p < 2 ^ n → rest n w marks p % 2 ≡ 0
+own-even size n w marks bits own p h =
+    go (weight marks p) (rest n w marks p) (bits p)
+    (sym (ap (λ (t : ℕ). t % 2) (new-low size n w marks p h)) ∙ sym (odd-mark (newWeights size n w marks) p)
+    ∙ ap (λ (m : List ℕ). weight m p) own)
+  where
+    go : (m r : ℕ) → m < 2 → (m + r) % 8 % 2 ≡ m → r % 2 ≡ 0
+    go m r h e = omega arith
+
+-- from sound marks with the signature of w
 module _ (size n : ℕ) (room : 2 ^ n ≤ size) (w marks : List ℕ) (sound : SoundMarks size n marks) (same : SameSums n marks w) where
   pub new-oddSet : oddSet (newWeights size n w marks) ≡ marks
   new-oddSet =
@@ -106,19 +139,4 @@ module _ (size n : ℕ) (room : 2 ^ n ≤ size) (w marks : List ℕ) (sound : So
       bit-left m r h e = omega arith
 
   pub new-shape : MarksAndRest n marks (newWeights size n w marks)
-  new-shape =
-      record {
-        added = rest n w marks;
-        is = new-low size n w marks;
-        on-one = λ p h e. (one p h e, rest-even n w marks same p h);
-        on-two = two;
-        on-others = λ p h a b. rest-others w marks n p a b;
-      }
-    where
-      one : (p : ℕ) → p < 2 ^ n → ones p ≡ 1 → rest n w marks p < 8
-      one p h e = let t = is-one n p h e in rw (t .2, rest-one w marks n (t .0) (t .1)) (oneRest-lt n w marks (t .0))
-
-      two : (p : ℕ) → p < 2 ^ n → ones p ≡ 2 → (rest n w marks p ≡ 0) ⊎ (rest n w marks p ≡ 6)
-      two p h e =
-          let t = is-two n p h e in
-          rw (t .4, rest-two w marks n (t .0) (t .1) (t .2) (t .3)) (pairRest-cases n w marks same (t .0) (t .1) (t .2) (t .3))
+  new-shape = even-shape size n w marks (rest-even n w marks same)

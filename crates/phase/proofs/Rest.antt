@@ -82,6 +82,18 @@ pub oneRest-lt : (n : ℕ) (w u : List ℕ) (i : ℕ) → oneRest n w u i < 8
 unfolding oneRest
 oneRest-lt n w u i = omega arith
 
+-- an even rest on two wires is 0 or 6
+pub pairRest-if-even : (w u : List ℕ) (i j : ℕ) → pairRest w u i j % 2 ≡ 0 → (pairRest w u i j ≡ 0) ⊎ (pairRest w u i j ≡ 6)
+unfolding pairRest
+pairRest-if-even w u i j e = go ((q w i j + 3 * q u i j) % 4) (omega arith) e
+  where
+    go : (d : ℕ) → d < 4 → 3 * d % 2 ≡ 0 → (3 * d ≡ 0) ⊎ (3 * d ≡ 6)
+    go zero h e = inl refl
+    go (suc zero) h e = absurd (omega arith)
+    go (suc (suc zero)) h e = inr refl
+    go (suc (suc (suc zero))) h e = absurd (omega arith)
+    go (suc (suc (suc (suc d)))) h e = absurd (omega arith)
+
 -- ---- even, where the signatures are equal
 even-quarter : (x y : ℕ) → x % 2 ≡ y % 2 → ((3 * x + y) % 4 ≡ 0) ⊎ ((3 * x + y) % 4 ≡ 2)
 even-quarter x y h = go ((3 * x + y) % 4) refl (omega arith)

@@ -13,6 +13,7 @@ use Rattle.circuit.specs.Lent.{frontGates, readingLent}
 use Rattle.circuit.specs.Limits.{gateBytes, maxWires}
 use Rattle.written.proofs.Checks.{fault-ready, longest}
 use Rattle.written.proofs.WriteBack.{list-written}
+use Rattle.written.specs.Chosen.{chosen-is}
 use Rattle.written.specs.Faults.{Writable, writeFault}
 use Rattle.written.specs.Writing.{writePhases, writeRows}
 use Rattle.written.specs.Wrote.{Wrote}
@@ -64,6 +65,7 @@ module _ (g : List ℕ) {n : ℕ} {w rows : List ℕ} (ready : Writable n w rows
           counted = omega (arith, all .count, ap length front);
           accepted = accepted;
           list = subst (λ (hs : List Gate). Wrote maxWires n (readingLent w rows) hs) (sym front) wrote;
+          alone = front ∙ sym (chosen-is maxWires n (readingLent w rows));
           kept = stored-kept all room;
         }
       where

@@ -10,6 +10,7 @@ use Rattle.circuit.specs.Limits.{gateBytes, maxWires}
 use Rattle.circuit.specs.Replies.{numberOf}
 use Rattle.circuit.specs.declared.Reply.{Reply}
 use Rattle.circuit.specs.declared.Reply.the-variants as reply
+use Rattle.written.specs.Chosen.{chosen}
 use Rattle.written.specs.Faults.{writeFault}
 use Rattle.written.specs.Wrote.{Wrote}
 use Rattle.synth.specs.declared.Written.{Written}
@@ -36,6 +37,8 @@ pub record WroteBytes (n : ℕ) (weights rows gates gates′ : List ℕ) (count 
   -- none of faults 1 to 5
   pub accepted : Accepted n (take (gateBytes * count) gates′)
   pub list : Wrote maxWires n (readingLent weights rows) (frontGates count gates′)
+  -- the list depends on n, the weights and the rows alone; which one it is stays free
+  pub alone : frontGates count gates′ ≡ chosen maxWires n (readingLent weights rows)
   -- every byte after the last gate is as it was
   pub kept : KeptFrom (gateBytes * count) gates gates′
 

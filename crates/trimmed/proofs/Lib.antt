@@ -1,1 +1,3 @@
 pub mod Whole
+pub mod Again
+pub mod Laws

@@ -22,9 +22,10 @@ use Rattle.synth.specs.Entry.{WroteBytes}
 use Rattle.trimmed.proofs.Whole.{whole}
 use Rattle.trimmed.specs.Trimmed.{Trimmed, oddSetOf, weightsOf}
 use Rattle.trimmed.specs.declared.Counts.{Counts}
+use Rattle.written.specs.Chosen.{chosen}
 use Rattle.written.specs.Faults.{Writable}
 use Rattle.written.specs.Wrote.{Wrote}
-use Rattle.trimmer.specs.Entry.{Done-with, Trimmable, Writes-for}
+use Rattle.trimmer.specs.Entry.{Chosen-for, Done-with, Trimmable, Writes-for, toWrite}
 
 -- C is read: its weights and rows
 pub record ReadC (n : ℕ) (bytes out log w rows : List ℕ) : Type 0 where
@@ -129,10 +130,13 @@ module _ {n : ℕ} {bytes out log w rows first : List ℕ} {k : ℕ} {last log�
       counts tin (odd ∙ ap memberCount (first-is (c .moved .marked))) tout moves (gates ∙ wrote .counted) in
       let new-C : new ≡ newWeights parities n (weightsOf n C) (oddSetOf n D) =
       sym (ap (λ (r : Reading). r .weights) (list .reads)) ∙ all .weights in
-      let for-C : Writes-for n C D = subst (λ (r : Reading). Wrote maxWires n r D) (ap₂ readingLent new-C (rows-is read-C)) list in
+      let to-write : readingLent new rows ≡ toWrite n C D = ap₂ readingLent new-C (rows-is read-C) in
+      let for-C : Writes-for n C D = subst (λ (r : Reading). Wrote maxWires n r D) to-write list in
+      let alone : Chosen-for n C D = wrote .alone ∙ ap (chosen maxWires n) to-write in
       record {
         trimmed = subst (λ (j : ℕ). Trimmed n C (frontGates j out′) log′ counts) (sym gates) all;
         written = subst (λ (j : ℕ). Writes-for n C (frontGates j out′)) (sym gates) for-C;
+        alone = subst (λ (j : ℕ). Chosen-for n C (frontGates j out′)) (sym gates) alone;
         gates-kept = subst (λ (j : ℕ). KeptFrom (gateBytes * j) out out′) (sym gates) (wrote .kept);
         log-kept = subst (λ (j : ℕ). KeptFrom (moveCells * j) log log′) (sym moves) (c .moved .all .made .kept);
       }

@@ -1,4 +1,5 @@
 pub mod Counted
 pub mod TrimWays
 pub mod Finish
+pub mod Again
 pub mod Laws

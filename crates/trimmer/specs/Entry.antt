@@ -7,13 +7,14 @@ use Rattle.circuit.specs.Faults.{Accepted, listReply, orElse, shortFault}
 use Rattle.circuit.specs.Gate.{Gate, gatesOf}
 use Rattle.circuit.specs.Lent.{KeptFrom, frontGates}
 use Rattle.circuit.specs.Limits.{gateBytes, logCells, maxWires, moveCells, parities, writeBytes}
-use Rattle.circuit.specs.Read.{read, withWeights}
+use Rattle.circuit.specs.Read.{Reading, read, withWeights}
 use Rattle.circuit.specs.Replies.{numberOf}
 use Rattle.circuit.specs.declared.Reply.the-variants as reply
 use Rattle.circuit.specs.declared.Reply.{Reply}
 use Rattle.phase.specs.NewWeights.{newWeights}
 use Rattle.trimmed.specs.Trimmed.{Trimmed, oddSetOf, weightsOf}
 use Rattle.trimmed.specs.declared.Counts.{Counts}
+use Rattle.written.specs.Chosen.{chosen}
 use Rattle.written.specs.Wrote.{Wrote}
 use Rattle.trimmer.specs.declared.TrimReply.{TrimReply}
 use Rattle.trimmer.specs.declared.TrimReply.the-variants.{Done, Refused}
@@ -50,9 +51,17 @@ pub record Trimmable (n : ℕ) (bytes out log : List ℕ) : Type 0 where
   pub out-room : writeBytes ≤ length out
   pub log-room : logCells ≤ length log
 
--- D is written, as any list is, for the new weights and the rows of C
+-- what D is written for: the new weights and the rows of C
+abbrev pub toWrite : ℕ → List Gate → List Gate → Reading
+toWrite n C D = withWeights (newWeights parities n (weightsOf n C) (oddSetOf n D)) (read maxWires n C)
+
+-- D is written for them, as any list is
 abbrev pub Writes-for : ℕ → List Gate → List Gate → Type 0
-Writes-for n C D = Wrote maxWires n (withWeights (newWeights parities n (weightsOf n C) (oddSetOf n D)) (read maxWires n C)) D
+Writes-for n C D = Wrote maxWires n (toWrite n C D) D
+
+-- and depends on them alone: the list is the one chosen for them
+abbrev pub Chosen-for : ℕ → List Gate → List Gate → Type 0
+Chosen-for n C D = D ≡ chosen maxWires n (toWrite n C D)
 
 -- an accepted C is trimmed
 pub record Done-with (n : ℕ) (bytes out log out′ log′ : List ℕ) (counts : Counts) : Type 0 where
@@ -61,6 +70,8 @@ pub record Done-with (n : ℕ) (bytes out log out′ log′ : List ℕ) (counts 
   pub trimmed : Trimmed n (gatesOf bytes) (frontGates (counts .gates) out′) log′ counts
   -- each weight in its spelling, no Z, and at most n * 2^n + n * n gates
   pub written : Writes-for n (gatesOf bytes) (frontGates (counts .gates) out′)
+  -- equal n, weights and rows to write give equal lists
+  pub alone : Chosen-for n (gatesOf bytes) (frontGates (counts .gates) out′)
   -- bytes after the last gate, and cells after the last move, stay untouched
   pub gates-kept : KeptFrom (gateBytes * counts .gates) out out′
   pub log-kept : KeptFrom (moveCells * counts .moves) log log′

@@ -1,14 +1,14 @@
 -- The laws of written lists on one page, as documents 01 and 02 word them. The proofs are in the modules named.
 use mathlib.Core.List.{List}
 use mathlib.Core.Logic.{_↔_}
-use mathlib.Core.Path.{_≡_}
+use mathlib.Core.Path.{_∙_, _≡_, ap, sym}
 use Prim.Native.Nat.{_^_, ℕ, _≤_}
 use Rattle.circuit.proofs.Sound.{start-sound}
 use Rattle.circuit.specs.Faults.{AllWellFormed}
 use Rattle.circuit.specs.Gate.{Gate, Z, kindOf}
 use Rattle.circuit.specs.Lent.{readingLent}
 use Rattle.circuit.specs.Limits.{maxWires, rowCells}
-use Rattle.circuit.specs.Read.{Reading, start}
+use Rattle.circuit.specs.Read.{Reading, read, start}
 use Rattle.circuit.specs.Sound.{SoundRows, SoundWeights}
 use Rattle.circuit.specs.declared.gates.Kind.the-variants.{Phase}
 use Rattle.gf2.specs.Sum.{sum}
@@ -17,6 +17,7 @@ use Rattle.written.proofs.KindCounts.{kinds-total}
 use Rattle.written.proofs.Pulses.{runs-without-z}
 use Rattle.written.proofs.RowRule.{rows-sound}
 use Rattle.written.proofs.WriteBack.{list-written}
+use Rattle.written.specs.Chosen.{chosen}
 use Rattle.written.specs.Faults.{Writable, rowsFault, writeFault}
 use Rattle.written.specs.Spelling.{RackRuns, gatesOfKind, kindsAt, occurs}
 use Rattle.written.specs.Writing.{writeList}
@@ -43,6 +44,13 @@ rack-runs-exactly n gs f = runs-without-z n gs f
 -- so it can run every list that is written
 pub rack-runs-wrote : {N n : ℕ} {r : Reading} {gs : List Gate} → Wrote N n r gs → RackRuns gs
 rack-runs-wrote {n = n} {gs = gs} w = rack-runs-exactly n gs (w .formed) .1 (w .no-z)
+
+-- ---- document 02, 2.2: the list depends on n, the weights and the rows alone
+
+-- so of the lists that this library writes, two that read alike are the same
+pub reads-alike-same-list : {N n : ℕ} {r s : Reading} {gs hs : List Gate} → Wrote N n r gs → gs ≡ chosen N n r → Wrote N n s hs
+    → hs ≡ chosen N n s → read N n hs ≡ read N n gs → hs ≡ gs
+reads-alike-same-list {N} {n} w alone v alone′ same = alone′ ∙ ap (chosen N n) (sym (v .reads) ∙ same ∙ w .reads) ∙ sym alone
 
 -- ---- demand 1: the faults of a call that writes
 

@@ -1,4 +1,5 @@
 pub mod Spelling
 pub mod Wrote
 pub mod Writing
+pub mod Chosen
 pub mod Faults

@@ -1,5 +1,5 @@
--- The list that this library writes. Document 01 leaves its CNOTs and the order of parities free, so no promise of an entry names this
--- list; the functions of synth behind the entry do.
+-- The list that this library writes. Document 01 leaves its CNOTs and the order of parities free, so no promise of an entry opens this
+-- list: what entries cite is shut (Chosen). The functions of synth behind the entry name it.
 use mathlib.Core.List.{_++_, List, [], _∷_, map}
 use Prim.Native.Nat.{_*_, _-_, _^_, suc, zero, ℕ}
 use lib.Bits.{bitXor}
