@@ -137,7 +137,8 @@ typedef struct {
 
 /* Writes gates on n wires for weights and rows, from the first byte on: reading them gives exactly these weights and rows. Weight 1 to 7
  * is spelled T; S; S T; S S; S dagger T dagger; S dagger; T dagger, so that no Z is written. At most n * 2^n + n * n gates; every byte
- * after the last gate is as it was. Which CNOTs are used, and the order of parities, are free.
+ * after the last gate is as it was. Which CNOTs are used, and the order of parities, are free; but equal n, weights and rows give equal
+ * gates, whatever the lent bytes held.
  *   weights  256 bytes, each 0 to 7, 0 at parity 0 and from 2^n up
  *   rows     8 bytes: row i below 2^n, 0 from row n up, invertible
  *   gates    at least 6,336 bytes, written
@@ -197,6 +198,8 @@ typedef struct {
  * is left for its odd set. Each move is legal on the marks that it gets, and no legal move there has a smaller z. The weights are
  * spelled as sulmedra_write spells them, so the circuit has no Z. Which CNOTs are used, the order of parities, and the set Y of each
  * move are free.
+ * The circuit that is written, trimmed again, stays: that call is done, with no move and the log as it was; t_in, odd_size and t_out are
+ * the t_out of the first; and it writes the same gates, byte for byte.
  *   gates  three bytes each, at most 12,288 bytes, any bytes
  *   out    at least 6,336 bytes; the gates are written from its start, and what comes after the last is untouched
  *   log    at least 10,200 bytes; the moves are written from its start, forty bytes each, and what comes after the last is untouched
@@ -225,7 +228,8 @@ typedef struct {
 
 /* Answers a text with what the program `trim` prints for it: the wire count, the four counts and the gates of the trimmed circuit, or
  * one line `refused ` with the number and the place of the text's fault. The circuit and the counts are those of a trim with all that is
- * said of sulmedra_trim. The first 28,676 bytes of a text decide.
+ * said of sulmedra_trim. The first 28,676 bytes of a text decide. The reply with a circuit, without its second line, is a text again, and
+ * is answered with the same lines but for the second: T gates out, three times, and 0000.
  *   text  any bytes
  *   out   at least 14,807 bytes; the reply is written from its start, and what comes after it is untouched
  * Checks: 8. */

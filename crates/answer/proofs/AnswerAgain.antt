@@ -1,6 +1,6 @@
 -- The page to read for document 02, 2.2: the printed n and gates of an earlier answer are answered with the same lines, but for the counts.
 use mathlib.Core.List.{List, _++_}
-use mathlib.Core.Path.{_∙_, _≡_, ap, refl, subst, sym}
+use mathlib.Core.Path.{_∙_, _≡_, ap, subst, sym}
 use Prim.Native.Nat.{_≤_, ℕ}
 use native.Mathlib.Omega.{arith}
 use lib.ListN.{length, length-append, take}
@@ -8,8 +8,6 @@ use Rattle.circuit.proofs.Bytes.{gates-of-bytes}
 use Rattle.circuit.proofs.Judging.{formed-done, refused-not-done, short-well}
 use Rattle.circuit.specs.Faults.{AllWellFormed, callReply, firstFault}
 use Rattle.circuit.specs.Gate.{Gate, bytesOf, gatesOf}
-use Rattle.circuit.specs.Lent.{placed}
-use Rattle.circuit.specs.Read.{read}
 use Rattle.circuit.specs.declared.Reply.{Reply}
 use Rattle.circuit.specs.declared.Reply.the-variants as reply
 use Rattle.text.proofs.TextLaws.{accepted-is-written}
@@ -21,7 +19,7 @@ use Rattle.trimmed.specs.Again.{TrimmedAgain}
 use Rattle.written.proofs.Laws.{reads-alike-same-list}
 use Rattle.answer.proofs.AnswerLaws.{done-prints, printed-reads-back}
 use Rattle.answer.specs.Again.{AnswersAgain, PrintsAgain, withoutCounts}
-use Rattle.answer.specs.Entry.{AnswerText, OutLeft, Writes-printed}
+use Rattle.answer.specs.Entry.{AnswerText, Writes-printed}
 use Rattle.answer.specs.Printed.{Prints, PrintsGates, PrintsTrim}
 use Rattle.answer.specs.declared.Answered.{Answered}
 use Rattle.answer.specs.declared.Answered.the-variants.{Done, Refused}
@@ -66,7 +64,8 @@ module _ (n : ℕ) (list : List ℕ) (said : Sayable n list) (formed : AllWellFo
     as-long : length again ≡ length printed
     as-long =
         let before : List ℕ = wiresLine n ++ countsLine (p .counts .tin) (p .counts .odd) (p .counts .tout) (p .counts .moves) in
-        ap length lines ∙ length-append counted (gateLines (p .D)) ∙ sym (length-append before (gateLines (p .D))) ∙ sym (ap length (p .lines))
+        ap length lines ∙ length-append counted (gateLines (p .D)) ∙ sym (length-append before (gateLines (p .D)))
+        ∙ sym (ap length (p .lines))
 
   -- another call, with n and the gates
   answered : (out out′ : List ℕ) (r : Answered) → replyBytes ≤ length out → AnswerText (withoutCounts printed) out out′ r

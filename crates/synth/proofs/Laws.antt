@@ -71,6 +71,13 @@ module _ (n : ℕ) (w rows g g′ : List ℕ) (count : ℕ) (x : WriteList n w r
   pub rack-runs-written : RackRuns (frontGates count g′)
   rack-runs-written = rack-runs-wrote (x .gates-left .list)
 
+  -- another call with the same n, weights and rows writes as many gates, and the same ones, whatever it was lent
+  pub written-alike : (h h′ : List ℕ) (other : ℕ) → WriteList n w rows h h′ (Done other)
+      → (other ≡ count) × (frontGates other h′ ≡ frontGates count g′)
+  written-alike h h′ other y =
+      let same : frontGates other h′ ≡ frontGates count g′ = y .gates-left .alone ∙ sym (x .gates-left .alone) in
+      (y .gates-left .counted ∙ ap length same ∙ sym (x .gates-left .counted), same)
+
   -- at most n * 2^n + n * n gates
   pub written-few : (count ≤ writtenGates n) × (count ≤ maxWrittenGates)
   written-few =

@@ -1,6 +1,6 @@
--- Documents 01 and 02 leave free which CNOTs are used and in which order parities are written: many lists may be written for the same
--- weights and rows (Wrote). This library has chosen one of them for each n, weights and rows. What stands behind the name is shut, so that a
--- promise which cites it says just this: the list depends on n, the weights and the rows alone, and equal ones give equal lists.
+-- Document 01 leaves free which CNOTs are used and in which order parities are written: many lists may be written for the same weights and
+-- rows (Wrote). This library has chosen one of them for each n, weights and rows. What stands behind the name is shut, so that a promise
+-- which cites it says just this: the list depends on n, the weights and the rows alone, and equal ones give equal lists.
 use mathlib.Core.List.{List}
 use mathlib.Core.Path.{_≡_, refl}
 use Prim.Native.Nat.{ℕ}
