@@ -137,8 +137,8 @@ typedef struct {
 
 /* Writes gates on n wires for weights and rows, from the first byte on: reading them gives exactly these weights and rows. Weight 1 to 7
  * is spelled T; S; S T; S S; S dagger T dagger; S dagger; T dagger, so that no Z is written. At most n * 2^n + n * n gates; every byte
- * after the last gate is as it was. Which CNOTs are used, and the order of parities, are free; but equal n, weights and rows give equal
- * gates, whatever the lent bytes held.
+ * after the last gate is as it was. Which CNOTs are used, and the order of parities, are free; but in one version equal n, weights and
+ * rows give equal gates, whatever the lent bytes held.
  *   weights  256 bytes, each 0 to 7, 0 at parity 0 and from 2^n up
  *   rows     8 bytes: row i below 2^n, 0 from row n up, invertible
  *   gates    at least 6,336 bytes, written
@@ -198,8 +198,9 @@ typedef struct {
  * is left for its odd set. Each move is legal on the marks that it gets, and no legal move there has a smaller z. The weights are
  * spelled as sulmedra_write spells them, so the circuit has no Z. Which CNOTs are used, the order of parities, and the set Y of each
  * move are free.
- * The circuit that is written, trimmed again, stays: that call is done, with no move and the log as it was; t_in, odd_size and t_out are
- * the t_out of the first; and it writes the same gates, byte for byte.
+ * The circuit that is written, trimmed again into outputs that are long enough, stays: that call is done, with no move and the log as it
+ * was; t_in, odd_size and t_out are the t_out of the first; the gates have the same weights and rows, and the same version writes the same
+ * gates, byte for byte.
  *   gates  three bytes each, at most 12,288 bytes, any bytes
  *   out    at least 6,336 bytes; the gates are written from its start, and what comes after the last is untouched
  *   log    at least 10,200 bytes; the moves are written from its start, forty bytes each, and what comes after the last is untouched

@@ -43,7 +43,7 @@ module _ (n : ℕ) (list : List ℕ) (said : Sayable n list) (formed : AllWellFo
 
     same : TrimmedAgain n (p .D) (second .D) (p .counts) (second .counts)
     same =
-        trimming-again n (said .few) (gatesOf list) (p .D) (second .D) (p .log) (second .log) (p .counts) (second .counts) (p .trimmed)
+        trimming-again n (gatesOf list) (p .D) (second .D) (p .log) (second .log) (p .counts) (second .counts) (p .trimmed)
         (second .trimmed)
 
     same-gates : second .D ≡ p .D

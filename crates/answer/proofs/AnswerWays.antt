@@ -7,7 +7,6 @@ use native.Mathlib.Decide.{decLe}
 use native.Mathlib.Omega.{arith}
 use lib.ListN.{length, length-take, take}
 use borrow.Author.Tests.{lt-leb}
-use Rattle.circuit.proofs.Bytes.{gates-in}
 use Rattle.circuit.proofs.Judging.{or-well, passes-list-call, short-well}
 use Rattle.circuit.proofs.TableRule.{call-done, call-refusal}
 use Rattle.circuit.specs.Faults.{firstFault, lentOutput, listCallFault, refuse, shortFault}
@@ -27,6 +26,7 @@ use Rattle.text.specs.Written.{refusedLine}
 use Rattle.text.specs.declared.TextReply.{TextReply}
 use Rattle.text.specs.declared.TextReply.the-variants as read
 use Rattle.trimmed.specs.declared.Counts.{Counts}
+use Rattle.trimmer.proofs.Again.{counted as bytes-counted}
 use Rattle.trimmer.specs.Entry.{Done-with, TrimLeft, TrimList, countsOf, told, trimLent, verdict}
 use Rattle.trimmer.specs.declared.TrimReply.{TrimReply}
 use Rattle.trimmer.specs.declared.TrimReply.the-variants as trim
@@ -67,15 +67,14 @@ module _ {n : ℕ} {g list log : List ℕ} (lent : Lent n g list log) where
       pub gates-within : gateBytes * counts .gates ≤ length list
       gates-within =
           let d = done .1 in
-          let front = take (gateBytes * counts .gates) list′ in
-          omega (arith, d .trimmed .gates-written, gates-in front, length-take (gateBytes * counts .gates) list′, d .gates-kept .long)
+          omega (arith, bytes-counted d, length-take (gateBytes * counts .gates) list′, d .gates-kept .long)
 
       pub gates-left : gateBytes * counts .gates ≤ length list′
       gates-left = omega (arith, gates-within, done .1 .gates-kept .long)
 
       -- and takes just the bytes counted
       pub counted : gateBytes * counts .gates ≡ length (take (gateBytes * counts .gates) list′)
-      counted = omega (arith, gates-within, length-take (gateBytes * counts .gates) list′, done .1 .gates-kept .long)
+      counted = sym (bytes-counted (done .1))
 
       pub trim-printed : {was left : List ℕ} {next : ℕ} → Writes was 0 (trimLines n counts (frontGates (counts .gates) list′)) left next
           → Writes-printed (circuit n g) was left next

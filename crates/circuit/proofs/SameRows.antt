@@ -21,12 +21,12 @@ use Rattle.gf2.proofs.Parity.{parity-comm, parity-pow}
 use Rattle.gf2.specs.Bit.{bit}
 
 -- wire j alone is set: it ends on the wires whose rows name j
-pub row-bit : (n : ℕ) (rows : List ℕ) (i j : ℕ) → i < n → j < n → bit (endState n rows (2 ^ j)) i ≡ bit (getD rows i 0) j
+row-bit : (n : ℕ) (rows : List ℕ) (i j : ℕ) → i < n → j < n → bit (endState n rows (2 ^ j)) i ≡ bit (getD rows i 0) j
 row-bit n rows i j hi hj =
     end-bit n rows (2 ^ j) i hi ∙ parity-comm n (getD rows i 0) (2 ^ j) ∙ parity-pow n j (getD rows i 0) hj
 
 -- sound rows with the same end states on these states are the same
-pub ends-tell-rows : (N n : ℕ) (v w : List ℕ) → SoundRows N n v → SoundRows N n w
+ends-tell-rows : (N n : ℕ) (v w : List ℕ) → SoundRows N n v → SoundRows N n w
     → ((j : ℕ) → j < n → endState n v (2 ^ j) ≡ endState n w (2 ^ j)) → v ≡ w
 ends-tell-rows N n v w a b same = ext-getD 0 v w (a .long ∙ sym (b .long)) (λ i h. at i (decLt i n))
   where

@@ -154,6 +154,21 @@ reading-keeps N n fit (g ∷ gs) r f s = reading-keeps N n fit gs (readGate g r)
 pub read-sound : (N n : ℕ) → n ≤ N → (gs : List Gate) → AllWellFormed n gs → SoundReading N n (read N n gs)
 read-sound N n fit gs f = reading-keeps N n fit gs (start N n) f (start-sound N n fit)
 
+-- reading keeps the number of weights, whatever the list
+kind-long : (k : Kind) (a b : ℕ) (r : Reading) → length (readKind k a b r .weights) ≡ length (r .weights)
+unfolding readKind
+kind-long Cnot a b r = refl
+kind-long (Phase v) a b r = length-set (r .weights) (row r a) ((getD (r .weights) (row r a) 0 + v) % 8)
+kind-long Unknown a b r = refl
+
+from-long : (gs : List Gate) (r : Reading) → length (readFrom gs r .weights) ≡ length (r .weights)
+unfolding readFrom
+from-long [] r = refl
+from-long (gate kind a b ∷ gs) r = from-long gs (readGate (gate kind a b) r) ∙ kind-long (kindOf kind) a b r
+
+pub weights-long : (N n : ℕ) (gs : List Gate) → length (read N n gs .weights) ≡ 2 ^ N
+weights-long N n gs = from-long gs (start N n) ∙ length-none N
+
 -- lists may be joined anywhere
 pub read-append : (xs ys : List Gate) (r : Reading) → readFrom (xs ++ ys) r ≡ readFrom ys (readFrom xs r)
 unfolding readFrom

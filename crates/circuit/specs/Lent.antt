@@ -27,9 +27,12 @@ readBytes n bytes = read maxWires n (gatesOf bytes)
 
 -- ---- gates
 
--- the gates at the front of lent bytes, k of them
+-- the gates at the front of lent bytes, k of them: their bytes, and themselves
+abbrev pub frontBytes : ℕ → List ℕ → List ℕ
+frontBytes k bytes = take (gateBytes * k) bytes
+
 abbrev pub frontGates : ℕ → List ℕ → List Gate
-frontGates k bytes = gatesOf (take (gateBytes * k) bytes)
+frontGates k bytes = gatesOf (frontBytes k bytes)
 
 -- ---- what a call has changed
 

@@ -4,13 +4,14 @@ use mathlib.Core.List.{List}
 use mathlib.Core.Logic.{_↔_}
 use mathlib.Core.Path.{_≡_, refl, sym}
 use Prim.Native.Nat.{_<_, _^_, ℕ, _≤_}
+use lib.ListN.{length}
 use Rattle.circuit.specs.OddSet.{oddSet}
 use Rattle.circuit.specs.Says.{phaseAt}
 use Rattle.circuit.specs.Sound.{SoundMarks, SoundWeights}
 use Rattle.phase.proofs.ByCoefficients.{phase-by-coefficients, same-phases}
 use Rattle.phase.proofs.Converse.{coefficients-back, phases-iff}
 use Rattle.phase.proofs.Lists.{marks-weights, odd-sound}
-use Rattle.phase.proofs.NewWeights.{even-shape, new-oddSet, new-phases, new-shape, new-sound, own-even}
+use Rattle.phase.proofs.NewWeights.{even-shape, new-holds, new-oddSet, new-phases, new-shape, new-sound, own-even}
 use Rattle.phase.proofs.Signature.{oddSet-sums, signature-iff}
 use Rattle.phase.proofs.Sums.{SameSums, signature-sums}
 use Rattle.phase.proofs.Unique.{added-is, new-unique}
@@ -37,6 +38,10 @@ odd-set-has-signature n w = signature-sums n (oddSet w) w .1 (oddSet-sums n w)
 -- and is sound where they are
 pub odd-set-is-sound : (size n : ℕ) (w : List ℕ) → SoundWeights size n w → SoundMarks size n (oddSet w)
 odd-set-is-sound = odd-sound
+
+-- new weights have a place for each parity of n wires
+pub new-weights-hold : (size n : ℕ) (w marks : List ℕ) → 2 ^ n ≤ length (newWeights size n w marks)
+new-weights-hold = new-holds
 
 module _ (size n : ℕ) (room : 2 ^ n ≤ size) where
   -- (c) equal signature, exactly where the phases differ by what even weights alone can make
@@ -77,7 +82,7 @@ module _ (size n : ℕ) (room : 2 ^ n ≤ size) where
         → v ≡ newWeights size n w marks
     new-weights-unique v = new-unique size n room w marks v (marks-weights size n marks sound)
 
-    -- (f) where the marks are the odd set of the new weights, these are their own new weights: found once more, nothing moves
+    -- (f) where the marks are the odd set of the new weights, the new weights are their own: found once more from them, nothing moves
     -- (document 02, 2.2)
     pub new-weights-again : oddSet (newWeights size n w marks) ≡ marks
         → newWeights size n (newWeights size n w marks) marks ≡ newWeights size n w marks

@@ -64,6 +64,11 @@ module _ (size n : ℕ) (f : ℕ → ℕ) where
         length-replicate {A = ℕ} (size - 2 ^ n) 0,
       )
 
+  -- and never less than the parities of n wires
+  pub pad-holds : 2 ^ n ≤ length (pad size n f)
+  unfolding pad
+  pad-holds = omega (arith, length-append (tabulate (2 ^ n) f) (replicate (size - 2 ^ n) 0), length-tabulate (2 ^ n) f)
+
   pub pad-low : (p : ℕ) → p < 2 ^ n → weight (pad size n f) p ≡ f p
   unfolding pad
   pad-low p h =

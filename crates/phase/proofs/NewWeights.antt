@@ -5,6 +5,7 @@ use mathlib.Core.Path.{ap, sym, _∙_, _≡_}
 use Prim.Native.Nat.{_%_, _*_, _+_, _-_, _/_, _<_, _^_, ℕ, _≤_}
 use native.Mathlib.Omega.{arith}
 use lib.Count.{ones}
+use lib.ListN.{length}
 use lib.Pow.{pow-pos}
 use Rattle.circuit.proofs.OddSet.{length-odd, odd-mark}
 use Rattle.circuit.specs.OddSet.{oddSet}
@@ -13,7 +14,7 @@ use Rattle.gf2.proofs.Modular.{cong-by}
 use Rattle.gf2.specs.Sum.{sum}
 use Rattle.phase.proofs.Added.{added-c, added-l, added-q}
 use Rattle.phase.proofs.ByCoefficients.{same-phases}
-use Rattle.phase.proofs.Lists.{Wide, pad-all, pad-high, pad-length, pad-low, same-list, wide}
+use Rattle.phase.proofs.Lists.{Wide, pad-all, pad-high, pad-holds, pad-length, pad-low, same-list, wide}
 use Rattle.phase.proofs.Rest.{oneRest-lt, pairRest-if-even, pairRest-is, pairs-rest, rest-even, rest-many, rest-one, rest-others}
 use Rattle.phase.proofs.Rest.{rest-two, rest-zero}
 use Rattle.phase.proofs.Sums.{C, L, Q, SameSums}
@@ -44,6 +45,10 @@ module _ (size n : ℕ) (w u : List ℕ) where
   pub new-high : (p : ℕ) → 2 ^ n ≤ p → weight (newWeights size n w u) p ≡ 0
   unfolding newWeights
   new-high = pad-high size n (newWeight n w u)
+
+  pub new-holds : 2 ^ n ≤ length (newWeights size n w u)
+  unfolding newWeights
+  new-holds = pad-holds size n (newWeight n w u)
 
   pub new-sound : 2 ^ n ≤ size → weight u 0 ≡ 0 → SoundWeights size n (newWeights size n w u)
   unfolding newWeights

@@ -95,30 +95,17 @@ pairRest-if-even w u i j e = go ((q w i j + 3 * q u i j) % 4) (omega arith) e
     go (suc (suc (suc (suc d)))) h e = absurd (omega arith)
 
 -- ---- even, where the signatures are equal
-even-quarter : (x y : ℕ) → x % 2 ≡ y % 2 → ((3 * x + y) % 4 ≡ 0) ⊎ ((3 * x + y) % 4 ≡ 2)
-even-quarter x y h = go ((3 * x + y) % 4) refl (omega arith)
-  where
-    go : (d : ℕ) → (3 * x + y) % 4 ≡ d → d < 4 → (d ≡ 0) ⊎ (d ≡ 2)
-    go zero e g = inl refl
-    go (suc zero) e g = absurd (omega arith)
-    go (suc (suc zero)) e g = inr refl
-    go (suc (suc (suc zero))) e g = absurd (omega arith)
-    go (suc (suc (suc (suc d)))) e g = absurd (omega arith)
-
 module _ (n : ℕ) (w u : List ℕ) (same : SameSums n u w) where
-  pub pairRest-cases : (i j : ℕ) → i < j → j < n → (pairRest w u i j ≡ 0) ⊎ (pairRest w u i j ≡ 6)
-  pairRest-cases i j h g = go (even-quarter (Q w i j) (Q u i j) (sym (same .q i j h g)))
-    where
-      go : ((3 * Q w i j + Q u i j) % 4 ≡ 0) ⊎ ((3 * Q w i j + Q u i j) % 4 ≡ 2) → (pairRest w u i j ≡ 0) ⊎ (pairRest w u i j ≡ 6)
-      go (inl e) = inl (pairRest-is w u i j ∙ rw e)
-      go (inr e) = inr (pairRest-is w u i j ∙ rw e)
-
   pairRest-even : (i j : ℕ) → i < j → j < n → pairRest w u i j % 2 ≡ 0
-  pairRest-even i j h g = go (pairRest-cases i j h g)
+  pairRest-even i j h g = ap (λ (t : ℕ). t % 2) (pairRest-is w u i j) ∙ even (Q w i j) (Q u i j) (same .q i j h g)
     where
-      go : (pairRest w u i j ≡ 0) ⊎ (pairRest w u i j ≡ 6) → pairRest w u i j % 2 ≡ 0
-      go (inl e) = rw e
-      go (inr e) = rw e
+      even : (x y : ℕ) → y % 2 ≡ x % 2 → 3 * ((3 * x + y) % 4) % 2 ≡ 0
+      even x y e =
+          let t : ℕ = 3 * x + y in
+          cong-by 2 (6 * (t / 4)) (9 * (x / 2) + 3 * (y / 2) + 6 * (x % 2)) (3 * (t % 4)) 0 (omega arith)
+
+  pub pairRest-cases : (i j : ℕ) → i < j → j < n → (pairRest w u i j ≡ 0) ⊎ (pairRest w u i j ≡ 6)
+  pairRest-cases i j h g = pairRest-if-even w u i j (pairRest-even i j h g)
 
   pairs-even : (i : ℕ) → i < n → sum n (λ j. apart i j * pairRest w u i j) % 2 ≡ 0
   pairs-even i h =

@@ -3,9 +3,9 @@
 use mathlib.Core.List.{List}
 use mathlib.Core.Path.{_≡_}
 use Prim.Native.Nat.{_*_, suc, zero, ℕ}
-use lib.ListN.{length, take}
+use lib.ListN.{length}
 use Rattle.circuit.specs.Faults.{Accepted, callReply}
-use Rattle.circuit.specs.Lent.{KeptFrom, frontGates, readingLent}
+use Rattle.circuit.specs.Lent.{KeptFrom, frontBytes, frontGates, readingLent}
 use Rattle.circuit.specs.Limits.{gateBytes, maxWires}
 use Rattle.circuit.specs.Replies.{numberOf}
 use Rattle.circuit.specs.declared.Reply.{Reply}
@@ -35,7 +35,7 @@ pub record WroteBytes (n : ℕ) (weights rows gates gates′ : List ℕ) (count 
   -- the lent bytes hold so many gates
   pub counted : count ≡ length (frontGates count gates′)
   -- none of faults 1 to 5
-  pub accepted : Accepted n (take (gateBytes * count) gates′)
+  pub accepted : Accepted n (frontBytes count gates′)
   pub list : Wrote maxWires n (readingLent weights rows) (frontGates count gates′)
   -- the list depends on n, the weights and the rows alone; which one it is stays free
   pub alone : frontGates count gates′ ≡ chosen maxWires n (readingLent weights rows)

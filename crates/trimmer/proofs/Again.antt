@@ -1,39 +1,39 @@
--- The trim of what the trim wrote: accepted, and nothing moves. That even the bytes are the same goes by `alone`, what is written depends
--- on n, the weights and the rows alone, which are equal.
+-- The trim of what the trim wrote: accepted, and nothing moves. That even the bytes are the same goes by `alone`: what is written depends
+-- on n, the weights and the rows alone, and these are equal.
 use mathlib.Core.List.{List}
 use mathlib.Core.Path.{ap, subst, sym, _∙_, _≡_}
 use Prim.Native.Nat.{_*_, _%_, ℕ}
 use native.Mathlib.Omega.{arith}
-use lib.ListN.{length, length-take, take}
+use lib.ListN.{length, length-take}
 use Rattle.circuit.proofs.Bytes.{bytes-of-gates, gates-in}
 use Rattle.circuit.proofs.Placing.{front-placed}
 use Rattle.circuit.specs.Faults.{Accepted}
 use Rattle.circuit.specs.Gate.{bytesOf, gatesOf}
-use Rattle.circuit.specs.Lent.{KeptFrom, frontGates, placed}
+use Rattle.circuit.specs.Lent.{KeptFrom, frontBytes, frontGates, placed}
 use Rattle.circuit.specs.Limits.{gateBytes, moveCells}
 use Rattle.trimmed.proofs.Laws.{trimming-again}
 use Rattle.trimmed.specs.Again.{TrimmedAgain}
 use Rattle.trimmed.specs.declared.Counts.{Counts}
 use Rattle.written.proofs.Checks.{longest}
 use Rattle.written.proofs.Laws.{reads-alike-same-list}
-use Rattle.trimmer.specs.Again.{bytesWritten, settled}
+use Rattle.trimmer.specs.Again.{settled}
 use Rattle.trimmer.specs.Entry.{Done-with}
 
 -- D takes just the bytes counted
 module _ {n : ℕ} {bytes out log out′ log′ : List ℕ} {counts : Counts} (d : Done-with n bytes out log out′ log′ counts) where
-  pub counted : length (bytesWritten counts out′) ≡ gateBytes * counts .gates
+  pub counted : length (frontBytes (counts .gates) out′) ≡ gateBytes * counts .gates
   counted =
-      let front : List ℕ = take (gateBytes * counts .gates) out′ in
+      let front : List ℕ = frontBytes (counts .gates) out′ in
       omega (arith, d .trimmed .gates-written, gates-in front, length-take (gateBytes * counts .gates) out′)
 
-  whole : length (bytesWritten counts out′) % gateBytes ≡ 0
+  whole : length (frontBytes (counts .gates) out′) % gateBytes ≡ 0
   whole = rw counted (omega arith)
 
-  pub back : bytesOf (frontGates (counts .gates) out′) ≡ bytesWritten counts out′
-  back = bytes-of-gates (bytesWritten counts out′) whole
+  back : bytesOf (frontGates (counts .gates) out′) ≡ frontBytes (counts .gates) out′
+  back = bytes-of-gates (frontBytes (counts .gates) out′) whole
 
   -- and is a list that may be trimmed: the longest written list is no longer than the longest list that is read
-  pub accepted-again : Accepted n bytes → Accepted n (bytesWritten counts out′)
+  pub accepted-again : Accepted n bytes → Accepted n (frontBytes (counts .gates) out′)
   accepted-again a =
       record {
         some = a .some;
@@ -43,11 +43,11 @@ module _ {n : ℕ} {bytes out log out′ log′ : List ℕ} {counts : Counts} (d
         formed = d .trimmed .formed;
       }
 
-module _ {n : ℕ} {bytes out log out′ log′ : List ℕ} {first : Counts} (a : Accepted n bytes) (d : Done-with n bytes out log out′ log′ first)
-    {out₂ log₂ out₂′ log₂′ : List ℕ} {again : Counts} (e : Done-with n (bytesWritten first out′) out₂ log₂ out₂′ log₂′ again) where
+module _ {n : ℕ} {bytes out log out′ log′ : List ℕ} {first : Counts} (d : Done-with n bytes out log out′ log′ first)
+    {out₂ log₂ out₂′ log₂′ : List ℕ} {again : Counts} (e : Done-with n (frontBytes (first .gates) out′) out₂ log₂ out₂′ log₂′ again) where
   pub same : TrimmedAgain n (frontGates (first .gates) out′) (frontGates (again .gates) out₂′) first again
   same =
-      trimming-again n (a .few) (gatesOf bytes) (frontGates (first .gates) out′) (frontGates (again .gates) out₂′) log′ log₂′ first again
+      trimming-again n (gatesOf bytes) (frontGates (first .gates) out′) (frontGates (again .gates) out₂′) log′ log₂′ first again
       (d .trimmed) (e .trimmed)
 
   same-gates : frontGates (again .gates) out₂′ ≡ frontGates (first .gates) out′
@@ -66,9 +66,9 @@ module _ {n : ℕ} {bytes out log out′ log′ : List ℕ} {first : Counts} (a 
         gates = same-number i;
       }
 
-  pub written-again : out₂′ ≡ placed out₂ 0 (bytesWritten first out′)
+  pub written-again : out₂′ ≡ placed out₂ 0 (frontBytes (first .gates) out′)
   written-again =
-      front-placed (e .gates-kept) (bytesWritten first out′) (ap (λ (k : ℕ). gateBytes * k) same-number ∙ sym (counted d))
+      front-placed (e .gates-kept) (frontBytes (first .gates) out′) (ap (λ (k : ℕ). gateBytes * k) same-number ∙ sym (counted d))
       (sym (back e) ∙ ap bytesOf same-gates ∙ back d)
 
   pub no-log : log₂′ ≡ log₂

@@ -7,7 +7,7 @@ use lib.ListN.{length}
 use Rattle.circuit.proofs.Judging.{done-list, list-number, or-well, refused-not-done, short-well, zero-done}
 use Rattle.circuit.specs.Faults.{Accepted}
 use Rattle.circuit.specs.Gate.{gatesOf}
-use Rattle.circuit.specs.Lent.{frontGates}
+use Rattle.circuit.specs.Lent.{frontBytes, frontGates}
 use Rattle.circuit.specs.Limits.{logCells, writeBytes}
 use Rattle.circuit.specs.Replies.{numberOf}
 use Rattle.circuit.specs.declared.Reply.the-variants as reply
@@ -18,7 +18,7 @@ use Rattle.written.proofs.Laws.{rack-runs-wrote}
 use Rattle.written.specs.Spelling.{RackRuns}
 use Rattle.trimmer.proofs.Again.{accepted-again, counts-settled, no-log, same, written-again}
 use Rattle.trimmer.proofs.TrimWays.{may-trim}
-use Rattle.trimmer.specs.Again.{TrimsAgain, bytesWritten}
+use Rattle.trimmer.specs.Again.{TrimsAgain}
 use Rattle.trimmer.specs.Entry.{Done-with, TrimLeft, TrimList, Trimmable, countsOf, told, trimLent, verdict}
 use Rattle.trimmer.specs.declared.TrimReply.{TrimReply}
 use Rattle.trimmer.specs.declared.TrimReply.the-variants.{Done, Refused}
@@ -88,22 +88,22 @@ module _ (n : ℕ) (bytes out log out′ log′ : List ℕ) where
 module _ (n : ℕ) (bytes out log out′ log′ : List ℕ) (r : TrimReply) (h : TrimList n bytes out log out′ log′ r)
     (t : Trimmable n bytes out log) where
   -- it has none of faults 1 to 5, and is short enough to be read
-  pub written-is-accepted : Accepted n (bytesWritten (countsOf r) out′)
+  pub written-is-accepted : Accepted n (frontBytes (countsOf r .gates) out′)
   written-is-accepted = accepted-again (done-writes n bytes out log out′ log′ r h t) (t .accepted)
 
   -- so another call with it and long enough outputs, whatever they hold, is done: no move, the same T count, the same weights and rows, and
   -- even the same bytes
   pub trims-again : (out₂ log₂ out₂′ log₂′ : List ℕ) (again : TrimReply) → writeBytes ≤ length out₂ → logCells ≤ length log₂
-      → TrimList n (bytesWritten (countsOf r) out′) out₂ log₂ out₂′ log₂′ again
+      → TrimList n (frontBytes (countsOf r .gates) out′) out₂ log₂ out₂′ log₂′ again
       → TrimsAgain n (countsOf r) out′ out₂ log₂ out₂′ log₂′ again
   trims-again out₂ log₂ out₂′ log₂′ again out-room log-room h₂ =
-      let may : Trimmable n (bytesWritten (countsOf r) out′) out₂ log₂ =
+      let may : Trimmable n (frontBytes (countsOf r .gates) out′) out₂ log₂ =
       record { accepted = written-is-accepted; out-room = out-room; log-room = log-room } in
       let d = done-writes n bytes out log out′ log′ r h t in
-      let e = all-done n (bytesWritten (countsOf r) out′) out₂ log₂ out₂′ log₂′ again h₂ may in
+      let e = all-done n (frontBytes (countsOf r .gates) out′) out₂ log₂ out₂′ log₂′ again h₂ may in
       record {
-        same = same (t .accepted) d (e .1);
-        reply = e .0 ∙ ap Done (counts-settled (t .accepted) d (e .1));
-        out-left = written-again (t .accepted) d (e .1);
-        log-left = no-log (t .accepted) d (e .1);
+        same = same d (e .1);
+        reply = e .0 ∙ ap Done (counts-settled d (e .1));
+        out-left = written-again d (e .1);
+        log-left = no-log d (e .1);
       }

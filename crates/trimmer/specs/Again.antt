@@ -1,19 +1,13 @@
 -- Document 02, 2.2, of the entry `trim`: another call, on the circuit D that a call wrote.
 use mathlib.Core.List.{List}
 use mathlib.Core.Path.{_≡_}
-use Prim.Native.Nat.{_*_, ℕ}
-use lib.ListN.{take}
-use Rattle.circuit.specs.Lent.{frontGates, placed}
-use Rattle.circuit.specs.Limits.{gateBytes}
+use Prim.Native.Nat.{ℕ}
+use Rattle.circuit.specs.Lent.{frontBytes, frontGates, placed}
 use Rattle.trimmed.specs.Again.{TrimmedAgain}
 use Rattle.trimmed.specs.declared.Counts.{Counts}
 use Rattle.trimmer.specs.Entry.{countsOf}
 use Rattle.trimmer.specs.declared.TrimReply.{TrimReply}
 use Rattle.trimmer.specs.declared.TrimReply.the-variants.{Done}
-
--- the bytes of D, at the front of the gates lent to a call that reported these counts
-abbrev pub bytesWritten : Counts → List ℕ → List ℕ
-bytesWritten counts out′ = take (gateBytes * counts .gates) out′
 
 -- the counts of a trim of D, from those reported with D: D's T gates three times, no move, as many gates
 abbrev pub settled : Counts → Counts
@@ -27,5 +21,5 @@ pub record TrimsAgain (n : ℕ) (first : Counts) (left out log out′ log′ : L
   -- the whole reply: done, with these counts
   pub reply : r ≡ Done (settled first)
   -- D is written once more, byte for byte, and all else stays as it was
-  pub out-left : out′ ≡ placed out 0 (bytesWritten first left)
+  pub out-left : out′ ≡ placed out 0 (frontBytes (first .gates) left)
   pub log-left : log′ ≡ log
