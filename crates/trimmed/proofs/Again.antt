@@ -1,6 +1,6 @@
 -- Trimming a trimmed block, from the statements of the two trims alone.
 use mathlib.Core.List.{List}
-use mathlib.Core.Path.{ap, ap₂, sym, _∙_, _≡_}
+use mathlib.Core.Path.{ap, ap₂, subst, sym, _∙_, _≡_}
 use Prim.Native.Nat.{_<_, _^_, ℕ, _≤_}
 use native.Mathlib.Decide.{decLt}
 use native.Mathlib.Omega.{arith}
@@ -24,17 +24,11 @@ use Rattle.trimmed.specs.declared.Counts.{Counts}
 within : {n : ℕ} {C D : List Gate} {log : List ℕ} {counts : Counts} → Trimmed n C D log counts → n ≤ maxWires
 within {n} {C} {D} d = go (decLt maxWires n)
   where
-    holds : 2 ^ n ≤ parities
-    holds =
-        omega (
-          arith,
-          ap length (d .weights),
-          weights-long maxWires n D,
-          new-weights-hold parities n (weightsOf n C) (oddSetOf n D),
-        )
+    holds : 2 ^ n ≤ length (weightsOf n D)
+    holds = subst (λ (w : List ℕ). 2 ^ n ≤ length w) (sym (d .weights)) (new-weights-hold parities n _ _)
 
     go : Dec (maxWires < n) → n ≤ maxWires
-    go (yes h) = let p : 2 ^ maxWires < 2 ^ n = pow-lt h in absurd (omega (arith, holds))
+    go (yes h) = let p : 2 ^ maxWires < 2 ^ n = pow-lt h in absurd (omega (arith, holds, weights-long maxWires n D))
     go (no g) = omega arith
 
 module _ (n : ℕ) (C D E : List Gate) (log log′ : List ℕ) (first again : Counts) (d : Trimmed n C D log first)
