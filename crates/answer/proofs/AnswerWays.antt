@@ -26,7 +26,7 @@ use Rattle.text.specs.Written.{refusedLine}
 use Rattle.text.specs.declared.TextReply.{TextReply}
 use Rattle.text.specs.declared.TextReply.the-variants as read
 use Rattle.trimmed.specs.declared.Counts.{Counts}
-use Rattle.trimmer.proofs.Again.{counted as bytes-counted}
+use Rattle.trimmer.proofs.Laws.{counted as bytes-counted}
 use Rattle.trimmer.specs.Entry.{Done-with, TrimLeft, TrimList, countsOf, told, trimLent, verdict}
 use Rattle.trimmer.specs.declared.TrimReply.{TrimReply}
 use Rattle.trimmer.specs.declared.TrimReply.the-variants as trim

@@ -1,3 +1,2 @@
 pub mod AnswerWays
 pub mod AnswerLaws
-pub mod AnswerAgain

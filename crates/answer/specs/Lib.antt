@@ -1,3 +1,2 @@
 pub mod Printed
 pub mod Entry
-pub mod Again

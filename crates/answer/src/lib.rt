@@ -1,7 +1,7 @@
 // What the program `trim` prints for a text (document 01, "Text form"), as one function on slices: the text is read, its circuit trimmed,
 // and the lines written.
-// Public entry: `answer`. Its promise is the record AnswerText of specs/Entry; proofs/AnswerLaws says what the promise means, and
-// proofs/AnswerAgain how a reply is answered in its turn.
+// Public entry: `answer`. Its promise is the record AnswerText of specs/Entry; proofs/AnswerLaws says what the promise means. How a
+// reply is answered in its turn is in `again`.
 ghost use Prim.Native.Nat.{_+_, _*_, _/_, _≤_};
 ghost use lib.ListN.{length};
 ghost use Rattle.circuit.specs.Gate.{gatesOf};

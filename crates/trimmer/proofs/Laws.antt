@@ -2,13 +2,14 @@
 use mathlib.Core.List.{List}
 use mathlib.Core.Logic.{_↔_, _≢_}
 use mathlib.Core.Path.{ap, refl, sym, _∙_, _≡_}
-use Prim.Native.Nat.{suc, zero, ℕ, _≤_}
-use lib.ListN.{length}
+use Prim.Native.Nat.{_*_, suc, zero, ℕ}
+use native.Mathlib.Omega.{arith}
+use lib.ListN.{length, length-take}
+use Rattle.circuit.proofs.Bytes.{gates-in}
 use Rattle.circuit.proofs.Judging.{done-list, list-number, or-well, refused-not-done, short-well, zero-done}
-use Rattle.circuit.specs.Faults.{Accepted}
 use Rattle.circuit.specs.Gate.{gatesOf}
 use Rattle.circuit.specs.Lent.{frontBytes, frontGates}
-use Rattle.circuit.specs.Limits.{logCells, writeBytes}
+use Rattle.circuit.specs.Limits.{gateBytes, logCells, writeBytes}
 use Rattle.circuit.specs.Replies.{numberOf}
 use Rattle.circuit.specs.declared.Reply.the-variants as reply
 use Rattle.circuit.specs.declared.Reply.{Reply}
@@ -16,9 +17,7 @@ use Rattle.trimmed.specs.Trimmed.{Trimmed}
 use Rattle.trimmed.specs.declared.Counts.{Counts}
 use Rattle.written.proofs.Laws.{rack-runs-wrote}
 use Rattle.written.specs.Spelling.{RackRuns}
-use Rattle.trimmer.proofs.Again.{accepted-again, counts-settled, no-log, same, written-again}
 use Rattle.trimmer.proofs.TrimWays.{may-trim}
-use Rattle.trimmer.specs.Again.{TrimsAgain}
 use Rattle.trimmer.specs.Entry.{Done-with, TrimLeft, TrimList, Trimmable, countsOf, told, trimLent, verdict}
 use Rattle.trimmer.specs.declared.TrimReply.{TrimReply}
 use Rattle.trimmer.specs.declared.TrimReply.the-variants.{Done, Refused}
@@ -33,6 +32,17 @@ trim-accepts n bytes out log = (
 )
 
 -- ---- demand 3: the reply to any accepted C, and D
+
+-- D takes just the bytes counted
+pub counted : {n : ℕ} {bytes out log out′ log′ : List ℕ} {counts : Counts} → Done-with n bytes out log out′ log′ counts
+    → length (frontBytes (counts .gates) out′) ≡ gateBytes * counts .gates
+counted {out′ = out′} {counts = counts} d =
+    omega (
+      arith,
+      d .trimmed .gates-written,
+      gates-in (frontBytes (counts .gates) out′),
+      length-take (gateBytes * counts .gates) out′,
+    )
 
 -- C was trimmed: the reply is done, and of D, which stands at the front of the gates lent, of the log and of the counts replied all that
 -- demand 3 says holds
@@ -82,28 +92,3 @@ module _ (n : ℕ) (bytes out log out′ log′ : List ℕ) where
     -- any other leaves both outputs as they were
     pub refusal-leaves : numberOf (told r) ≢ 0 → (out′ ≡ out) × (log′ ≡ log)
     refusal-leaves some = same-if (numberOf (told r)) (countsOf r) some (h .left)
-
--- ---- document 02, 2.2: the circuit that was written, trimmed again
-
-module _ (n : ℕ) (bytes out log out′ log′ : List ℕ) (r : TrimReply) (h : TrimList n bytes out log out′ log′ r)
-    (t : Trimmable n bytes out log) where
-  -- it has none of faults 1 to 5, and is short enough to be read
-  pub written-is-accepted : Accepted n (frontBytes (countsOf r .gates) out′)
-  written-is-accepted = accepted-again (done-writes n bytes out log out′ log′ r h t) (t .accepted)
-
-  -- so another call with it and long enough outputs, whatever they hold, is done: no move, the same T count, the same weights and rows, and
-  -- even the same bytes
-  pub trims-again : (out₂ log₂ out₂′ log₂′ : List ℕ) (again : TrimReply) → writeBytes ≤ length out₂ → logCells ≤ length log₂
-      → TrimList n (frontBytes (countsOf r .gates) out′) out₂ log₂ out₂′ log₂′ again
-      → TrimsAgain n (countsOf r) out′ out₂ log₂ out₂′ log₂′ again
-  trims-again out₂ log₂ out₂′ log₂′ again out-room log-room h₂ =
-      let may : Trimmable n (frontBytes (countsOf r .gates) out′) out₂ log₂ =
-      record { accepted = written-is-accepted; out-room = out-room; log-room = log-room } in
-      let d = done-writes n bytes out log out′ log′ r h t in
-      let e = all-done n (frontBytes (countsOf r .gates) out′) out₂ log₂ out₂′ log₂′ again h₂ may in
-      record {
-        same = same d (e .1);
-        reply = e .0 ∙ ap Done (counts-settled d (e .1));
-        out-left = written-again d (e .1);
-        log-left = no-log d (e .1);
-      }

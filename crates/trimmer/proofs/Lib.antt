@@ -1,5 +1,4 @@
 pub mod Counted
 pub mod TrimWays
 pub mod Finish
-pub mod Again
 pub mod Laws

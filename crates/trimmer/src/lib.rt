@@ -1,6 +1,6 @@
 // The trim: reads a circuit C, makes legal moves, each with the smallest z, until none is left, and writes the circuit D and the log of the
 // moves (document 01). Public entry: `trim`. Its promise is the record TrimList of specs/Entry; for an accepted circuit it is demand 3
-// whole and document 02's 2.7, the record Trimmed of trimmed/specs/Trimmed. What a call on D replies is in specs/Again (2.2).
+// whole and document 02's 2.7, the record Trimmed of trimmed/specs/Trimmed. What a call on D replies is in `again` (2.2).
 
 ghost use Rattle.trimmer.specs.Entry.{Done-with, TrimList, Trimmable};
 

@@ -4,8 +4,8 @@ use mathlib.Core.List.{List}
 use mathlib.Core.Path.{ap, subst, sym, _∙_, _≡_}
 use Prim.Native.Nat.{_*_, _%_, ℕ}
 use native.Mathlib.Omega.{arith}
-use lib.ListN.{length, length-take}
-use Rattle.circuit.proofs.Bytes.{bytes-of-gates, gates-in}
+use lib.ListN.{length}
+use Rattle.circuit.proofs.Bytes.{bytes-of-gates}
 use Rattle.circuit.proofs.Placing.{front-placed}
 use Rattle.circuit.specs.Faults.{Accepted}
 use Rattle.circuit.specs.Gate.{bytesOf, gatesOf}
@@ -16,18 +16,14 @@ use Rattle.trimmed.specs.Again.{TrimmedAgain}
 use Rattle.trimmed.specs.declared.Counts.{Counts}
 use Rattle.written.proofs.Checks.{longest}
 use Rattle.written.proofs.Laws.{reads-alike-same-list}
-use Rattle.trimmer.specs.Again.{settled}
+use Rattle.trimmer.proofs.Laws.{counted}
 use Rattle.trimmer.specs.Entry.{Done-with}
+use Rattle.again.specs.Calls.{settled}
 
--- D takes just the bytes counted
+-- D is whole gates
 module _ {n : ℕ} {bytes out log out′ log′ : List ℕ} {counts : Counts} (d : Done-with n bytes out log out′ log′ counts) where
-  pub counted : length (frontBytes (counts .gates) out′) ≡ gateBytes * counts .gates
-  counted =
-      let front : List ℕ = frontBytes (counts .gates) out′ in
-      omega (arith, d .trimmed .gates-written, gates-in front, length-take (gateBytes * counts .gates) out′)
-
   whole : length (frontBytes (counts .gates) out′) % gateBytes ≡ 0
-  whole = rw counted (omega arith)
+  whole = rw (counted d) (omega arith)
 
   back : bytesOf (frontGates (counts .gates) out′) ≡ frontBytes (counts .gates) out′
   back = bytes-of-gates (frontBytes (counts .gates) out′) whole
@@ -39,7 +35,7 @@ module _ {n : ℕ} {bytes out log out′ log′ : List ℕ} {counts : Counts} (d
         some = a .some;
         few = a .few;
         whole = whole;
-        short = omega (arith, counted, d .trimmed .gates-written, d .written .short, longest n (a .few));
+        short = omega (arith, counted d, d .trimmed .gates-written, d .written .short, longest n (a .few));
         formed = d .trimmed .formed;
       }
 

@@ -1,35 +1,32 @@
--- The page to read for document 02, 2.2: the printed n and gates of an earlier answer are answered with the same lines, but for the counts.
+-- The printed n and gates of an earlier answer are answered with the same lines, but for the counts.
 use mathlib.Core.List.{List, _++_}
 use mathlib.Core.Path.{_∙_, _≡_, ap, subst, sym}
 use Prim.Native.Nat.{_≤_, ℕ}
 use native.Mathlib.Omega.{arith}
-use lib.ListN.{length, length-append, take}
+use lib.ListN.{length, length-append}
 use Rattle.circuit.proofs.Bytes.{gates-of-bytes}
 use Rattle.circuit.proofs.Judging.{formed-done, refused-not-done, short-well}
 use Rattle.circuit.specs.Faults.{AllWellFormed, callReply, firstFault}
 use Rattle.circuit.specs.Gate.{Gate, bytesOf, gatesOf}
 use Rattle.circuit.specs.declared.Reply.{Reply}
-use Rattle.circuit.specs.declared.Reply.the-variants as reply
-use Rattle.text.proofs.TextLaws.{accepted-is-written}
 use Rattle.text.specs.Limits.{replyBytes}
 use Rattle.text.specs.Text.{Sayable, Text, circuit, readText}
 use Rattle.text.specs.Written.{countsLine, gateLines, wiresLine}
 use Rattle.trimmed.proofs.Laws.{trimming-again}
 use Rattle.trimmed.specs.Again.{TrimmedAgain}
 use Rattle.written.proofs.Laws.{reads-alike-same-list}
-use Rattle.answer.proofs.AnswerLaws.{done-prints, printed-reads-back}
-use Rattle.answer.specs.Again.{AnswersAgain, PrintsAgain, withoutCounts}
+use Rattle.answer.proofs.AnswerLaws.{printed-reads-back}
+use Rattle.again.specs.Texts.{AnswersAgain, PrintsAgain, withoutCounts}
 use Rattle.answer.specs.Entry.{AnswerText, Writes-printed}
 use Rattle.answer.specs.Printed.{Prints, PrintsGates, PrintsTrim}
 use Rattle.answer.specs.declared.Answered.{Answered}
 use Rattle.answer.specs.declared.Answered.the-variants.{Done, Refused}
 
 -- a list without a fault is answered by a trim
-trim-of : {n : ℕ} {C : List Gate} {bytes : List ℕ} → AllWellFormed n C → PrintsGates (firstFault n 0 C) n C bytes → PrintsTrim n C bytes
+pub trim-of : {n : ℕ} {C : List Gate} {bytes : List ℕ} → AllWellFormed n C → PrintsGates (firstFault n 0 C) n C bytes → PrintsTrim n C bytes
 trim-of {n} {C} {bytes} formed p = subst (λ (v : Reply). PrintsGates v n C bytes) (formed-done n 0 C formed) p
 
-module _ (n : ℕ) (list : List ℕ) (said : Sayable n list) (formed : AllWellFormed n (gatesOf list)) (printed : List ℕ)
-    (p : PrintsTrim n (gatesOf list) printed) where
+module _ (n : ℕ) (list : List ℕ) (said : Sayable n list) (printed : List ℕ) (p : PrintsTrim n (gatesOf list) printed) where
   -- n and the gates of what is printed are the text of D
   reads-D : readText (withoutCounts printed) ≡ circuit n (bytesOf (p .D))
   reads-D = ap (λ (x : List ℕ). readText (withoutCounts x)) (p .lines) ∙ printed-reads-back n list printed said p
@@ -68,7 +65,7 @@ module _ (n : ℕ) (list : List ℕ) (said : Sayable n list) (formed : AllWellFo
         ∙ sym (ap length (p .lines))
 
   -- another call, with n and the gates
-  answered : (out out′ : List ℕ) (r : Answered) → replyBytes ≤ length out → AnswerText (withoutCounts printed) out out′ r
+  pub answered : (out out′ : List ℕ) (r : Answered) → replyBytes ≤ length out → AnswerText (withoutCounts printed) out out′ r
       → AnswersAgain n (gatesOf list) printed out out′ r
   answered out out′ (Refused number place) room a =
       absurd (refused-not-done number place (a .reply ∙ ap callReply (short-well (length out) replyBytes room)))
@@ -82,15 +79,3 @@ module _ (n : ℕ) (list : List ℕ) (said : Sayable n list) (formed : AllWellFo
             reply = ap (λ (k : ℕ). Done k) (w .onward ∙ omega (arith, as-long again q));
             out-left = w .written;
           }
-
--- of a text that is a circuit without a fault, answered once, the n and gates printed are answered again: the same lines, but for the line
--- of counts, which is T out, T out, T out, 0
-pub answers-again : (t out out′ : List ℕ) (count : ℕ) → AnswerText t out out′ (Done count)
-    → (n : ℕ) (list : List ℕ) → readText t ≡ circuit n list → AllWellFormed n (gatesOf list)
-    → (out₂ out₂′ : List ℕ) (r : Answered) → replyBytes ≤ length out₂ → AnswerText (withoutCounts (take count out′)) out₂ out₂′ r
-    → AnswersAgain n (gatesOf list) (take count out′) out₂ out₂′ r
-answers-again t out out′ count a n list says formed out₂ out₂′ r room b =
-    let said = accepted-is-written t n list says .0 in
-    let first : PrintsTrim n (gatesOf list) (take count out′) =
-    trim-of formed (subst (λ (x : Text). Prints x (take count out′)) says (done-prints t out out′ count a .prints)) in
-    answered n list said formed (take count out′) first out₂ out₂′ r room b

@@ -1,0 +1,3 @@
+pub mod TrimmedTwice
+pub mod AnsweredTwice
+pub mod Laws
