@@ -229,8 +229,8 @@ typedef struct {
 
 /* Answers a text with what the program `trim` prints for it: the wire count, the four counts and the gates of the trimmed circuit, or
  * one line `refused ` with the number and the place of the text's fault. The circuit and the counts are those of a trim with all that is
- * said of sulmedra_trim. The first 28,676 bytes of a text decide. The reply with a circuit, without its second line, is a text again, and
- * is answered with the same lines but for the second: T gates out, three times, and 0000.
+ * said of sulmedra_trim. The first 28,676 bytes of a text decide. The reply with a circuit, without its second line, is a text again; the
+ * same version answers it with the same lines but for the second: T gates out, three times, and 0000.
  *   text  any bytes
  *   out   at least 14,807 bytes; the reply is written from its start, and what comes after it is untouched
  * Checks: 8. */

@@ -58,32 +58,29 @@ fn twice(n: usize, list: &[u8], random: &mut Random) -> Answer {
     first
 }
 
-#[test]
-fn short_circuits() {
-    let mut random = Random::new(330);
+/// So many random circuits on each number of wires, with a number of gates in this range.
+fn random_circuits(mut random: Random, gates: (usize, usize), rounds: [usize; 8]) -> Seen {
     let mut seen = Seen::default();
-    for (n, rounds) in [(1, 300), (2, 600), (3, 1000), (4, 1500), (5, 1500), (6, 1200), (7, 800), (8, 500)] {
+    for (n, rounds) in (1..).zip(rounds) {
         for _ in 0..rounds {
-            let length = random.between(0, 80);
+            let length = random.between(gates.0, gates.1);
             let list = circuit(&mut random, n, length);
             seen.note(n, &twice(n, &list, &mut random));
         }
     }
-    seen.came_up(70, 5000, 3000);
+    seen
+}
+
+#[test]
+fn short_circuits() {
+    let rounds = [300, 600, 1000, 1500, 1500, 1200, 800, 500];
+    random_circuits(Random::new(330), (0, 80), rounds).came_up(70, 5000, 3000);
 }
 
 #[test]
 fn middling_circuits() {
-    let mut random = Random::new(331);
-    let mut seen = Seen::default();
-    for (n, rounds) in [(1, 60), (2, 80), (3, 120), (4, 700), (5, 700), (6, 600), (7, 300), (8, 200)] {
-        for _ in 0..rounds {
-            let length = random.between(81, 700);
-            let list = circuit(&mut random, n, length);
-            seen.note(n, &twice(n, &list, &mut random));
-        }
-    }
-    seen.came_up(700, 2200, 1700);
+    let rounds = [60, 80, 120, 700, 700, 600, 300, 200];
+    random_circuits(Random::new(331), (81, 700), rounds).came_up(700, 2200, 1700);
 }
 
 #[test]

@@ -15,6 +15,11 @@ fn trim(n: usize, list: &[u8]) -> Trimmed {
     fast::trim(n, list, fast::find)
 }
 
+/// The counts that are due to a second trim, after a first one with these.
+fn counted_again(first: Counts) -> Counts {
+    Counts { t_in: first.t_out, odd_size: first.t_out, moves: 0, ..first }
+}
+
 #[test]
 fn second_trims_are_accepted() {
     let mut random = Random::new(150);
@@ -62,7 +67,7 @@ fn bytes_count_where_the_library_wrote_them() {
     let mut random = Random::new(151);
     for n in 1..=8 {
         let Trimmed { gates: d, counts, .. } = trim(n, &circuit(&mut random, n, 100));
-        let again = Counts { t_in: counts.t_out, odd_size: counts.t_out, moves: 0, ..counts };
+        let again = counted_again(counts);
         let longer = [&d[..], &[3, 0, 0, 5, 0, 0]].concat();
         assert_eq!(check_left_alone(n, &d, &counts, &d, &again), Ok(()));
         assert_eq!(check_again(n, &d, &counts, &longer, &again), Ok(()), "S and S dagger add nothing");
@@ -79,7 +84,7 @@ fn other_weights_and_rows_are_noticed() {
     let mut random = Random::new(152);
     for n in 2..=6 {
         let Trimmed { gates: d, counts, .. } = trim(n, &circuit(&mut random, n, 100));
-        let again = Counts { t_in: counts.t_out, odd_size: counts.t_out, moves: 0, ..counts };
+        let again = counted_again(counts);
         let amiss = |e: &[u8]| check_again(n, &d, &counts, e, &again).expect_err("E is not D");
         for place in (0..d.len()).step_by(GATE_BYTES) {
             let shorter = [&d[..place], &d[place + GATE_BYTES..]].concat();
@@ -194,7 +199,7 @@ fn printed_counts_are_those_of_the_second_trim() {
     for n in 1..=8 {
         let Trimmed { gates, counts, .. } = trim(n, &circuit(&mut random, n, 300));
         let t_out = counts.t_out;
-        let again = Counts { t_in: t_out, odd_size: t_out, moves: 0, ..counts };
+        let again = counted_again(counts);
         let due = format!("{t_out:04x} {t_out:04x} {t_out:04x} 0000\n");
         assert_eq!(counts_line(&again), due.as_bytes());
         let printed = |counts: Counts| reply(&Printed { n, gates: gates.clone(), counts });
