@@ -2,6 +2,8 @@
 // and the lines written.
 // Public entry: `answer`. Its promise is the record AnswerText of specs/Entry; proofs/AnswerLaws says what the promise means. How a
 // reply is answered in its turn is in `again`.
+#![tactic(auto)]
+
 ghost use Rattle.std.specs.Prelude.{◌+◌, ◌*◌, ◌/◌, ◌≤◌, length};
 ghost use Rattle.circuit.specs.Gate.{gates_of};
 ghost use Rattle.circuit.specs.Limits.{gate_bytes};

@@ -1,5 +1,7 @@
 // The C interface: each public entry once more as an exported function, thin. include/sulmedra.h declares them for C.
 // A slice passes as a pointer and a length. A reply is a struct of numbers: the fault's number, 0 for none, its place, and its values.
+#![tactic(auto)]
+
 ghost use Rattle.std.specs.Prelude.{◌≡◌};
 ghost use Rattle.reader.specs.Entry.{ReadList};
 ghost use Rattle.rests.specs.Entry.{NewWeightsOf};

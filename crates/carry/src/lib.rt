@@ -1,5 +1,7 @@
 // Carrying out a move on lent marks, with how many then differ (document 02, 2.4), and move k of a log (document 01, "Legal moves").
 // Public entries: `carry_out`, whose promise is the record CarriesOut of specs/Entry, and `move_at`.
+#![tactic(auto)]
+
 ghost use Rattle.std.specs.Prelude.{◌≡◌};
 ghost use Rattle.circuit.specs.Limits.{move_cells};
 ghost use Rattle.moves.specs.Log.{move_at};

@@ -19,7 +19,7 @@ use echelon::grow;
 use moves::marks::mark_at;
 
 // Whether it is known that none of the columns of the members without wire t depends on the others, and then the mask of their slots.
-#[derive(Drop)]
+#[derive(Clone, Copy)]
 pub struct Half {
     pub apart: bool,
     pub filled: u64,

@@ -1,6 +1,8 @@
 // Columns over the product table: one number for a number z and a parity y, the same for y ^ z. A set whose xor is 0 meets document 01's
 // conditions on triples of wires where its columns xor to 0. Beside them, for one z: whose column has which turn (turns), and whether the
 // columns depend on each other at all (halves). Internal: no entry for users.
+#![tactic(auto)]
+
 ghost use Rattle.std.specs.Prelude.{◌≡◌, ◌<◌, ◌^◌};
 ghost use Rattle.circuit.specs.Limits.{max_wires, parities, product_bits};
 ghost use Rattle.moves.specs.Column.{column};

@@ -2,6 +2,8 @@
 // decided by rows and coefficients; no state is tried.
 // Public entry: `compare`. Its promise is the record ComparesLists of specs/Entry, which speaks of running alone; proofs/Laws says what it
 // means.
+#![tactic(auto)]
+
 ghost use Rattle.std.specs.Prelude.{◌≡◌};
 ghost use Rattle.compare.specs.Entry.{ComparesLists, as_second, compare_reply};
 

@@ -1,5 +1,7 @@
 // Replies as C has them: a struct of numbers for each, and what an entry's reply comes to in it. The fault's number, 0 for none, and its
 // place come first in each; a part of a log has no fault. Internal: `capi` exports the functions that give these.
+#![tactic(auto)]
+
 ghost use Rattle.std.specs.Prelude.{◌≡◌};
 ghost use Rattle.circuit.specs.Replies.{number_of, place_of};
 ghost use Rattle.compare.specs.Entry as comparing;

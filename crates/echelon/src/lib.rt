@@ -1,6 +1,8 @@
 // An xor basis ("echelon") of PRODUCT_BITS slots, in which the finder eliminates columns. A mask names the slots that are filled. Such a
 // slot s holds a number whose leading bit is s; beside it stand the parity whose column opened it, and the slots that were taken off that
 // column before. What stands in and beside the others means nothing: with the mask 0 all slots are empty. Internal: no entry for users.
+#![tactic(auto)]
+
 ghost use Rattle.std.specs.Prelude.{◌≢◌, ◌≡◌, ◌<◌, ◌^◌, ◌≤◌, length};
 ghost use Rattle.circuit.specs.Limits.{parities, product_bits};
 ghost use Rattle.gf2.specs.Echelon.{by_members};

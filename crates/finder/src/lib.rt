@@ -1,6 +1,8 @@
 // The finder: a legal move with the smallest z for an odd set, or the certainty that there is none (document 01, "Legal moves"; document
 // 02, 2.7).
 // Public entry: `find`. Its promise is the record FindMove of specs/Entry, which speaks of every z and Y; proofs/Laws says what it means.
+#![tactic(auto)]
+
 ghost use Rattle.std.specs.Prelude.{◌≡◌, length};
 ghost use Rattle.circuit.specs.Limits.{move_cells};
 ghost use Rattle.circuit.specs.TableFaults.{Marked};

@@ -1,4 +1,6 @@
 // Texts from a file descriptor, for the programs: what C puts into a buffer, no contract can say. No entry.
+#![tactic(auto)]
+
 ghost use Rattle.input.specs.Kept.{Within};
 
 // The first bytes of a text, so many, or a read that failed.

@@ -1,5 +1,7 @@
 // The question that the finder asks of one column: whether it offers a separating set, the set of a legal move with this z. It is
 // eliminated with the columns before it; where it comes down to 0, the set is named. Internal: no entry for users.
+#![tactic(auto)]
+
 ghost use Rattle.std.specs.Prelude.{◌≡◌, ◌<◌, ◌^◌, length};
 ghost use Rattle.circuit.specs.Limits.{move_cells, parities, product_bits, table_bytes};
 ghost use Rattle.echelon.specs.Slots.{Slots};

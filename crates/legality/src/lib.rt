@@ -1,6 +1,8 @@
 // Whether cells are a legal move for these marks (document 01, "Legal moves"; check 10). Their form, the set Y, the pair that z separates
 // and the balance of Y have a function each, with at most one loop. The cells come from outside and may be any numbers. Internal: no entry
 // for users.
+#![tactic(auto)]
+
 ghost use Rattle.std.specs.Prelude.{◌≢◌, ◌≡◌, ◌<◌, ◌≤◌, length};
 ghost use Rattle.circuit.specs.Limits.{max_members, max_wires, parities, table_bytes};
 ghost use Rattle.circuit.specs.OddSet.{Member};

@@ -1,5 +1,7 @@
 // The lines that the programs write (document 01, "Text form"). Each function writes into a lent output from a place on and gives
 // back the place after what it wrote. Internal: the caller lends room enough.
+#![tactic(auto)]
+
 ghost use Rattle.std.specs.Prelude.{[], ◌∷◌, ◌+◌, ◌*◌, ◌/◌, ◌<◌, ◌≤◌, length};
 ghost use Rattle.circuit.specs.Gate.{gate, gates_of};
 ghost use Rattle.circuit.specs.Limits.{gate_bytes};

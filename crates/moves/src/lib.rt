@@ -2,6 +2,8 @@
 // how few members are left where none is legal, and when a number z has one. Definitions in specs/; proofs/Laws states the theorems.
 // The code beside it looks at one mark or flips it, gives one of two partners, and names what a search may find.
 
+#![tactic(auto)]
+
 pub mod marks;
 pub mod partner;
 

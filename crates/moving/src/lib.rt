@@ -1,5 +1,7 @@
 // Making legal moves, each with the smallest z, until none is left. The marks are lent, and flipped where they lie. Internal: no entry for
 // users.
+#![tactic(auto)]
+
 ghost use Rattle.std.specs.Prelude.{◌≡◌, ◌≤◌, length};
 ghost use Rattle.circuit.specs.Limits.{log_cells, max_members};
 ghost use Rattle.circuit.specs.TableFaults.{Marked};

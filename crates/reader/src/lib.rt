@@ -1,5 +1,7 @@
 // Reads a list of gates into weights and rows (document 01, "Weights and rows").
 // Public entry: `read`. Its promise is the record ReadList of specs/Entry; proofs/Laws says what the promise means.
+#![tactic(auto)]
+
 ghost use Rattle.std.specs.Prelude.{◌≡◌};
 ghost use Rattle.reader.specs.Entry.{ReadInto, ReadList, ReadOut, read_lent};
 

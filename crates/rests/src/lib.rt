@@ -1,5 +1,7 @@
 // The new weights of document 01, for a circuit's weights and an odd set: each mark, and the even rest.
 // Public entry: `new_weights`. Its promise is the record NewWeightsOf of specs/Entry; proofs/Laws says what the promise means.
+#![tactic(auto)]
+
 ghost use Rattle.std.specs.Prelude.{◌≡◌};
 ghost use Rattle.rests.specs.Entry.{NewWeightsOf, new_weights_fault};
 

@@ -1,5 +1,7 @@
 // The program `same` (document 02, 2.1): two texts from the files that its arguments name, one line to standard output. The line is that of
 // `verdict::put_verdict`, which is proved; what reaches a buffer from C, and what C does with one, is assumed.
+#![tactic(auto)]
+
 ghost use Rattle.std.specs.Prelude.{◌≤◌, length};
 ghost use Rattle.input.specs.Kept.{Within};
 ghost use Rattle.same.specs.Names.{Named, prefix};

@@ -1,6 +1,8 @@
 // Superset sums of one table less another, modulo 8, made in place: each parity gets the sum over those that name all its wires. At one
 // wire that is l of the first less l of the second, modulo 8; at two wires it is minus the same of q, modulo 4; at three it is the same of
 // c, modulo 2. So one pass over the wires gives all coefficients. The new weights and the comparison of two lists share it. No entry.
+#![tactic(auto)]
+
 ghost use Rattle.std.specs.Prelude.{◌≡◌, ◌≤◌, length};
 ghost use Rattle.gf2.specs.Over.{Below};
 ghost use Rattle.sums.specs.Difference.{DifferenceSums, SumsFit, Summable, difference};

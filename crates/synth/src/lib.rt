@@ -1,6 +1,8 @@
 // Writing a list of gates from weights and rows (document 01, "The new weights").
 // Public entry: `write`. Its promise is the record WriteList of specs/Entry; proofs/Laws says what the promise means. What a written list
 // is, and which faults a call has, is defined in `written`.
+#![tactic(auto)]
+
 ghost use Rattle.std.specs.Prelude.{length};
 ghost use Rattle.synth.specs.Entry.{WriteList, WroteBytes};
 ghost use Rattle.written.specs.Faults.{Writable};

@@ -1,6 +1,8 @@
 // The text form of circuits (document 01, "Text form"): a text read into gates. The lines that are written are defined in specs/Written;
 // the crate `lines` writes them.
 // Public entry: `read_text`. Its promise is the record ReadText of specs/Entry; proofs/TextLaws says what the promise means.
+#![tactic(auto)]
+
 ghost use Rattle.text.specs.Entry.{ReadText};
 
 pub mod hex;

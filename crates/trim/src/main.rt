@@ -1,5 +1,7 @@
 // The program `trim` (document 01, "Text form"): a text from standard input, the reply to standard output. The reply is that of
 // `answer::answer`, which is proved; what reaches a buffer from C, and what C does with one, is assumed.
+#![tactic(auto)]
+
 use answer::{Answered, answer};
 use input::{Input, read_input};
 use libc::{STDIN_FILENO, STDOUT_FILENO};

@@ -1,9 +1,11 @@
 // Demand 3 as one record (specs/Trimmed), the theorem that puts it together from its parts (proofs/Whole), and what follows from it alone:
 // trimming again changes nothing (specs/Again, proofs/Laws). There is no code but the type of the counts, of which the records speak.
 
+#![tactic(auto)]
+
 // The counts of a trim: T and T dagger gates of C, the size of its odd set, T and T dagger gates of D, the moves in the log, the gates
 // of D.
-#[derive(Drop)]
+#[derive(Clone, Copy)]
 pub struct Counts {
     pub tin: usize,
     pub odd: usize,

@@ -2,6 +2,8 @@
 // moves (document 01). Public entry: `trim`. Its promise is the record TrimList of specs/Entry; for an accepted circuit it is demand 3
 // whole and document 02's 2.7, the record Trimmed of trimmed/specs/Trimmed. What a call on D replies is in `again` (2.2).
 
+#![tactic(auto)]
+
 ghost use Rattle.trimmer.specs.Entry.{DoneWith, TrimList, Trimmable};
 
 pub mod counting;

@@ -1,5 +1,7 @@
 // What the program `same` prints for two texts (document 02, 2.1), as one function on slices: the texts are read, their circuits compared,
 // and the line written. No entry for users: in C they compare lists, by `compare`. Internal, `put_verdict`: the program lends the room.
+#![tactic(auto)]
+
 ghost use Rattle.std.specs.Prelude.{◌≤◌, ◌≡◌, length};
 ghost use Rattle.text.specs.Limits.{refused_line_bytes};
 ghost use Rattle.text.specs.Text.{circuit, read_text};
@@ -11,7 +13,7 @@ use judges::faults::SECOND_LIST;
 use lines::{put, put_refused};
 use text::{TextReply, read_text};
 
-#[derive(Drop)]
+#[derive(Clone, Copy)]
 pub enum Verdict {
     // The lent bytes start with the line, which has so many: the circuits were compared.
     Told { bytes: usize },

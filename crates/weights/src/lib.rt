@@ -1,5 +1,7 @@
 // Weights: their odd set and their coefficients (document 01, "Signature").
 // Public entries: `odd_set`, `coefficients`. Their promises are the records of specs/Entry; proofs/Laws says what they mean.
+#![tactic(auto)]
+
 ghost use Rattle.std.specs.Prelude.{◌≡◌, length};
 ghost use Rattle.circuit.specs.OddSet.{odd_set};
 ghost use Rattle.weights.specs.Entry.{OddSetOf, CoefficientsOf};

@@ -7,7 +7,7 @@ use crate::sums::{c_of, l_of, q_of};
 use circuit::limits::{Coefficient, MAX_WIRES, PAIR_BYTES, Weight};
 
 // How many wires a coefficient is of: l is of one, q of two, c of three.
-#[derive(Drop)]
+#[derive(Clone, Copy)]
 pub enum Degree {
     One,
     Two,

@@ -12,14 +12,14 @@ use Rattle.circuit.proofs.parity.next_wire.Tie as tie
 counted : (s : tie.Start) → count_trailing_zeros 64 (s.args.p / 2 ^ s.args.i) ≤ 64
 counted s = trailing_le 64 (s.args.p / 2 ^ s.args.i)
 
-cast-result : tie.Need-overflow-cast-result
+cast-result : tie.Need-overflow_cast-result-2
 cast-result c = record { fits = omega (arith, counted (search)) }
 
-add-result : tie.Need-overflow-add-result
+add-result : tie.Need-overflow_add-result
 add-result c = record { fits = omega (arith, counted (search)) }
 
 returns : tie.Need-returns
 returns c = let s : tie.Start = search in next_bit max_wires 64 s.args.p s.args.i (omega arith)
 
-pub next-wire-spec : {M : Type 1} → statement M
-next-wire-spec = tie.close (tie.spec (λ c. search rules) cast-result add-result returns)
+pub next_wire_spec : {M : Type 1} → statement M
+next_wire_spec = tie.close (tie.spec (λ c. search rules) cast-result add-result returns)

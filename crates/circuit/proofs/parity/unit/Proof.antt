@@ -10,7 +10,7 @@ use Rattle.circuit.proofs.parity.unit.Tie as tie
 fits : (s : tie.Start) → 2 ^ s.args.i < 2 ^ max_wires
 fits s = pow-lt s.requires
 
-cast-result : tie.Need-overflow-cast-result
+cast-result : tie.Need-overflow_cast-result
 cast-result c = record { fits = omega (arith, fits c) }
 
 returns : tie.Need-returns

@@ -5,16 +5,12 @@ use borrow.Author.Rules.{rules}
 use Rattle.gf2.proofs.Leading.{lowest_set}
 use Rattle.circuit.proofs.Widths.{trailing_in}
 use Rattle.circuit.specs.Limits.{max_wires}
-use Rattle.circuit.proofs.parity.lowest.Statement.{statement}
-use Rattle.circuit.proofs.parity.lowest.Tie as tie
+use Rattle.circuit.proofs.parity.lowest.Goals as goal
 
-cast-result : tie.Need-overflow-cast-result
-cast-result c = search (rules, trailing_le 64 c.args.p)
+pub overflow_cast-result-2 : goal.overflow_cast-result-2
+overflow_cast-result-2 c = search (rules, trailing_le 64 c.args.p)
 
-returns : tie.Need-returns
+pub returns : goal.returns
 returns c =
     let p = c.args.p in
     (trailing_in 64 max_wires p (omega arith) c.requires.0 c.requires.1, (lowest_set 64 max_wires p (omega arith) c.requires.0 c.requires.1).0)
-
-pub lowest-spec : {M : Type 1} → statement M
-lowest-spec = tie.close (tie.spec cast-result returns)
