@@ -10,61 +10,61 @@ use Rattle.echelon.proofs.insert.Statement.{statement}
 use Rattle.echelon.proofs.insert.Tie as tie
 
 -- the entry, seen from the place where `reduce` has found an empty slot
-abbrev entry : tie.After-slot → tie.Start
+abbrev entry : tie.In-Independent → tie.Start
 entry f = search
 
 -- what it said there
-stopped : (f : tie.After-slot)
-    → (bit (entry f).args.filled f.slot.given.0.0 ≡ 0)
-    × Stopped product_bits (held (entry f).args.filled (entry f).args.vec.now) (entry f).args.v f.slot.given.0.0
-    f.slot.given.0.1.0 f.slot.given.0.1.1.0
-stopped f = let r : tie.After-reduce = search in rw f.slot.given.1 at r.reduce.ensures
+stopped : (f : tie.In-Independent)
+    → (bit (entry f).args.filled f.in-Independent.slot ≡ 0)
+    × Stopped product_bits (held (entry f).args.filled (entry f).args.vec.now) (entry f).args.v f.in-Independent.slot
+    f.in-Independent.left f.in-Independent.used
+stopped f = let r : tie.After-reduce = search in rw f.in-Independent.is at r.reduce.ensures
 
-mul-vec : tie.Need-overflow-mul-vec
+mul-vec : tie.Need-offset_bounds-vec-slot
 mul-vec c = record { fits = omega (arith, (stopped (search)).1.slot) }
 
-element-write-vec : tie.Need-element-write-vec
+element-write-vec : tie.Need-bounds-vec-slot
 element-write-vec c = omega (arith, (stopped (search)).1.slot)
 
-mul-by : tie.Need-overflow-mul-by
+mul-by : tie.Need-offset_bounds-by-slot
 mul-by c = record { fits = omega (arith, (stopped (search)).1.slot) }
 
-element-write-by : tie.Need-element-write-by
+element-write-by : tie.Need-bounds-by-slot
 element-write-by c = omega (arith, (stopped (search)).1.slot)
 
-put-cell-requires : tie.Need-put-cell-requires
-put-cell-requires c κs = let s : tie.Start = search in omega (arith, (stopped (search)).1.slot, s.pre.0.members.long)
+put-cell-requires : tie.Need-put_cell-requires
+put-cell-requires c κs = let s : tie.Start = search in omega (arith, (stopped (search)).1.slot, s.requires.0.members.long)
 
-returns : tie.Need-returns
+returns : tie.Need-returns-in-Dependent
 returns c =
-    let u : tie.After-used = search in
+    let u : tie.In-Dependent = search in
     let r : tie.After-reduce = search in
-    (rw u.used.given.1 at r.reduce.ensures, record { vec_is = refl; by_is = refl; member_is = refl })
+    (rw u.in-Dependent.is at r.reduce.ensures, record { vec_is = refl; by_is = refl; member_is = refl })
 
-shl-t23 : tie.Need-overflow-shl-t23
+shl-t23 : tie.Need-overflow_shl-result
 shl-t23 c = omega (arith, (stopped (search)).1.slot)
 
-returns-2 : tie.Need-returns-2
+returns-2 : tie.Need-returns-in-Independent
 returns-2 c =
-    let put : tie.After-put-cell = search in
-    let f : tie.After-slot = search in
+    let put : tie.After-put_cell = search in
+    let f : tie.In-Independent = search in
     let s = entry f in
     record {
       slot =
           record {
-            s = f.slot.given.0.0;
-            left = f.slot.given.0.1.0;
-            used = f.slot.given.0.1.1.0;
+            s = f.in-Independent.slot;
+            left = f.in-Independent.left;
+            used = f.in-Independent.used;
             stopped = (stopped f).1;
-            vec_is = slot_held s.pre.0.masked (stopped f).0 (stopped f).1;
+            vec_is = slot_held s.requires.0.masked (stopped f).0 (stopped f).1;
           };
-      masked = opened_masked s.pre.0.masked (stopped f).0 (stopped f).1;
+      masked = opened_masked s.requires.0.masked (stopped f).0 (stopped f).1;
       by_is = refl;
-      member_is = put.put-cell.ensures;
+      member_is = put.put_cell.ensures;
     }
 
-pub insert-spec : {M : Type 1} → statement M
-insert-spec =
+pub insert_spec : {M : Type 1} → statement M
+insert_spec =
     tie.close
     (tie.spec
     (λ c κs. search rules)

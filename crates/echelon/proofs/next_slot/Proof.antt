@@ -12,14 +12,14 @@ use Rattle.echelon.proofs.next_slot.Tie as tie
 counted : (s : tie.Start) → count_trailing_zeros 64 (s.args.m / 2 ^ s.args.s) ≤ 64
 counted s = trailing_le 64 (s.args.m / 2 ^ s.args.s)
 
-cast-result : tie.Need-overflow-cast-result
+cast-result : tie.Need-overflow_cast-result
 cast-result c = record { fits = omega (arith, counted (search)) }
 
-add-result : tie.Need-overflow-add-result
+add-result : tie.Need-overflow_add-result
 add-result c = record { fits = omega (arith, counted (search)) }
 
 returns : tie.Need-returns
 returns c = let s : tie.Start = search in next_bit product_bits 64 s.args.m s.args.s (omega arith)
 
-pub next-slot-spec : {M : Type 1} → statement M
-next-slot-spec = tie.close (tie.spec (λ c. search rules) cast-result add-result returns)
+pub next_slot_spec : {M : Type 1} → statement M
+next_slot_spec = tie.close (tie.spec (λ c. search rules) cast-result add-result returns)

@@ -9,31 +9,31 @@ use Rattle.reader.proofs.read.Statement.{statement}
 use Rattle.reader.proofs.read.Tie as tie
 
 -- the judge is asked, and the entry seen from there
-abbrev entry : tie.After-list-reply → tie.Start
+abbrev entry : tie.After-list_reply-found → tie.Start
 entry l = search
 
-judged : (l : tie.After-list-reply) →
-    l.list-reply.result ≡
+judged : (l : tie.After-list_reply-found) →
+    l.list_reply-found.result ≡
     read_reply (entry l).args.n (entry l).args.gates.now (length (entry l).args.weights.now) (length (entry l).args.rows.now)
 judged l =
-    let lent : tie.After-read-lent = search in
-    l.list-reply.ensures ∙ ap (list_reply (entry l).args.n (entry l).args.gates.now) lent.read-lent.ensures
+    let lent : tie.After-read_lent = search in
+    l.list_reply-found.ensures ∙ ap (list_reply (entry l).args.n (entry l).args.gates.now) lent.read_lent.ensures
 
-returns : tie.Need-returns
+returns : tie.Need-returns-in-Refused
 returns c =
-    let f : tie.After-found = search in
-    read_refused (judged (search)) f.found.given.1
+    let f : tie.In-Refused = search in
+    read_refused (judged (search)) f.in-Refused.is
 
-put-reading-requires : tie.Need-put-reading-requires
+put-reading-requires : tie.Need-put_reading-requires
 put-reading-requires c κs =
-    let f : tie.After-enum-told = search in
-    may_read (judged (search)) f.enum_told.given.1
+    let f : tie.In_default = search in
+    may_read (judged (search)) f.in_default.is
 
-returns-2 : tie.Need-returns-2
+returns-2 : tie.Need-returns
 returns-2 c =
-    let out : tie.After-put-reading = search in
-    let f : tie.After-enum-told = search in
-    read_done (judged (search)) f.enum_told.given.1 out.put-reading.ensures
+    let out : tie.After-put_reading = search in
+    let f : tie.In_default = search in
+    read_done (judged (search)) f.in_default.is out.put_reading.ensures
 
 pub read_spec : {M : Type 1} → statement M
 read_spec =

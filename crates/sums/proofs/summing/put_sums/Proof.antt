@@ -8,48 +8,48 @@ use Rattle.sums.specs.Summing.{SumsTo}
 use Rattle.sums.proofs.summing.put_sums.Statement.{statement}
 use Rattle.sums.proofs.summing.put_sums.Tie as tie
 
-abbrev invariant-loop : tie.invariant-loop
+abbrev invariant-loop : tie.invariant-loop-i
 invariant-loop n s₀ i₀ s i = (i ≤ n) × SumsTo i s₀ s
 
-abbrev decreases-loop : tie.decreases-loop
+abbrev decreases-loop : tie.decreases-loop-i
 decreases-loop n s₀ i₀ s i = n - i
 
 abbrev Head : Type 0
-Head = tie.At-loop invariant-loop decreases-loop
+Head = tie.At-loop-i invariant-loop decreases-loop
 
 abbrev Entry : Type 0
 Entry = tie.Start invariant-loop decreases-loop
 
-loop-holds : tie.Need-loop-init invariant-loop decreases-loop
+loop-holds : tie.Need-loop-i-init invariant-loop decreases-loop
 loop-holds c =
     let s : Entry = search in
-    (search rules, sums_start s.args.s.now s.pre.2)
+    (search rules, sums_start s.args.s.now s.requires.2)
 
-add-wire-requires : tie.Need-add-wire-requires invariant-loop decreases-loop
+add-wire-requires : tie.Need-add_wire-requires invariant-loop decreases-loop
 add-wire-requires c κs =
     let at : Head = search in
     let s : Entry = search in
-    (omega (arith, s.pre.0), in_blocks at.loop.inv.1 s.pre.1 (omega arith))
+    (omega (arith, s.requires.0), in_blocks at.loop-i.invariant.1 s.requires.1 (omega arith))
 
-loop-again : tie.Need-loop-preserved invariant-loop decreases-loop
+loop-again : tie.Need-loop-i-preserved invariant-loop decreases-loop
 loop-again c =
-    let w : tie.After-add-wire invariant-loop decreases-loop = search in
+    let w : tie.After-add_wire invariant-loop decreases-loop = search in
     let at : Head = search in
     let s : Entry = search in
-    (search rules, sums_next at.loop.inv.1 s.pre.1 (omega arith) w.add-wire.ensures)
+    (search rules, sums_next at.loop-i.invariant.1 s.requires.1 (omega arith) w.add_wire.ensures)
 
-same_length : tie.Need-same-length invariant-loop decreases-loop
-same_length c = let at : Head = search in at.loop.inv.1.as_long
+same_length : tie.Need-shape_of-s invariant-loop decreases-loop
+same_length c = let at : Head = search in at.loop-i.invariant.1.as_long
 
 returns : tie.Need-returns invariant-loop decreases-loop
 returns c =
     let at : Head = search in
     let s : Entry = search in
-    let e : at.loop.i ≡ s.args.n = omega arith in
-    rw e at at.loop.inv.1
+    let e : at.loop-i.i ≡ s.args.n = omega arith in
+    rw e at at.loop-i.invariant.1
 
-pub put-sums-spec : {M : Type 1} → statement M
-put-sums-spec =
+pub put_sums_spec : {M : Type 1} → statement M
+put_sums_spec =
     tie.close
     (tie.spec
     invariant-loop

@@ -12,42 +12,42 @@ use Rattle.weights.specs.Lists.{list_of, size_of}
 use Rattle.weights.proofs.lists.put_list.Statement.{statement}
 use Rattle.weights.proofs.lists.put_list.Tie as tie
 
-abbrev invariant-loop : tie.invariant-loop
+abbrev invariant-loop : tie.invariant-loop-p
 invariant-loop n w of out₀ p₀ out p = (p ≤ length out) × (length out ≡ size_of max_wires of) × Filled out (list_of max_wires n w of) p
 
-abbrev decreases-loop : tie.decreases-loop
+abbrev decreases-loop : tie.decreases-loop-p
 decreases-loop n w of out₀ p₀ out p = size_of max_wires of - p
 
 -- what is to be written
 abbrev written : tie.Start invariant-loop decreases-loop → List ℕ
 written s = list_of max_wires s.args.n s.args.w.now s.args.of
 
-loop-holds : tie.Need-loop-init invariant-loop decreases-loop
+loop-holds : tie.Need-loop-p-init invariant-loop decreases-loop
 loop-holds c =
     let s : tie.Start invariant-loop decreases-loop = search in
     (search rules, search rules, filled_none s.args.out.now (written s))
 
-loop-again : tie.Need-loop-preserved invariant-loop decreases-loop
+loop-again : tie.Need-loop-p-preserved invariant-loop decreases-loop
 loop-again c =
-    let r : tie.After-entry-at invariant-loop decreases-loop = search in
-    let at : tie.At-loop invariant-loop decreases-loop = search in
+    let r : tie.After-entry_at invariant-loop decreases-loop = search in
+    let at : tie.At-loop-p invariant-loop decreases-loop = search in
     let s : tie.Start invariant-loop decreases-loop = search in
-    let p = at.loop.p in (
+    let p = at.loop-p.p in (
       simp length-set (omega arith),
       simp length-set (omega arith),
-      filled_next at.loop.out (written s) p _ (omega arith) at.loop.inv.2
+      filled_next at.loop-p.out (written s) p _ (omega arith) at.loop-p.invariant.2
           (r.entry_at.ensures ∙ list_at max_wires s.args.n s.args.w.now s.args.of p (omega arith)),
     )
 
 returns : tie.Need-returns invariant-loop decreases-loop
 returns c =
-    let at : tie.At-loop invariant-loop decreases-loop = search in
+    let at : tie.At-loop-p invariant-loop decreases-loop = search in
     let s : tie.Start invariant-loop decreases-loop = search in
     let e = length-list max_wires s.args.n s.args.w.now s.args.of in
-    filled_all at.loop.out (written s) at.loop.p (omega (arith, e)) (omega (arith, e)) at.loop.inv.2
+    filled_all at.loop-p.out (written s) at.loop-p.p (omega (arith, e)) (omega (arith, e)) at.loop-p.invariant.2
 
-pub put-list-spec : {M : Type 1} → statement M
-put-list-spec =
+pub put_list_spec : {M : Type 1} → statement M
+put_list_spec =
     tie.close
     (tie.spec
     invariant-loop

@@ -1,0 +1,16 @@
+-- The marks are filled from the front.
+use mathlib.Core.Path.{sym, ◌≡◌}
+use Prim.Native.Nat.{◌%◌, ◌-◌, ◌≤◌}
+use native.Mathlib.Omega.{arith}
+use lib.ListN.{get_or, length, length-set}
+use borrow.Author.Rules.{rules}
+use Rattle.circuit.proofs.OddSet.{length-odd, odd_mark}
+use Rattle.circuit.specs.OddSet.{odd_set}
+use Rattle.gf2.proofs.Table.{Filled, filled_all, filled_next, filled_none}
+use Rattle.weights.proofs.put_odd_set.Given as goal
+
+abbrev pub invariant-loop-p : goal.invariant-loop-p
+invariant-loop-p l = (l.p ≤ length l.weights) × (length l.marks ≡ length l.initial.marks) × Filled l.marks (odd_set l.weights) l.p
+
+abbrev pub decreases-loop-p : goal.decreases-loop-p
+decreases-loop-p l = length l.weights - l.p
