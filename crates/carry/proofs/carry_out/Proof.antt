@@ -12,60 +12,57 @@ use Rattle.carry.proofs.carry_out.Statement.{statement}
 use Rattle.carry.proofs.carry_out.Tie as tie
 
 -- the call, seen from where its fault is known
-abbrev entry : tie.After-marks-call-fault → tie.Start
+abbrev entry : tie.After-marks_call_fault-fault → tie.Start
 entry f = search
 
-fault-is : (f : tie.After-marks-call-fault) → f.marks-call-fault.result ≡ carry_fault (entry f).args.n (entry f).args.marks.now
+fault-is : (f : tie.After-marks_call_fault-fault) → f.marks_call_fault-fault.result ≡ carry_fault (entry f).args.n (entry f).args.marks.now
 fault-is f =
-    let l : tie.After-lent-fault = search in
+    let l : tie.After-lent_fault = search in
     let a = (entry f).args in
-    f.marks-call-fault.ensures ∙ ap (λ (lent : ℕ). call_fault a.n lent (marks_fault a.n a.marks.now)) l.lent-fault.ensures
+    f.marks_call_fault-fault.ensures ∙ ap (λ (lent : ℕ). call_fault a.n lent (marks_fault a.n a.marks.now)) l.lent_fault.ensures
 
-returns : tie.Need-returns
+returns : tie.Need-returns-then-fault-ne0
 returns c = call_refused (fault-is (search)) (search)
 
-marked : (f : tie.After-marks-call-fault) → f.marks-call-fault.result ≡ 0 → Marked (entry f).args.n (entry f).args.marks.now
+marked : (f : tie.After-marks_call_fault-fault) → f.marks_call_fault-fault.result ≡ 0 → Marked (entry f).args.n (entry f).args.marks.now
 marked f clear = (call_clear _ _).0 (sym (fault-is f) ∙ clear)
 
-is-move-requires : tie.Need-is-move-requires
+is-move-requires : tie.Need-is_move-requires
 is-move-requires c κs = sound_on_all (marked (search) (search))
 
-returns-2 : tie.Need-returns-2
+returns-2 : tie.Need-returns-then-not-is_move
 returns-2 c =
-    let m : tie.After-is-move = search in
+    let m : tie.After-is_move = search in
     move_refused (marked (search) (search)) (denied m.is_move.ensures (search))
 
-cell-at-requires : tie.Need-cell-at-requires
+cell-at-requires : tie.Need-cell_at-requires
 cell-at-requires c κs =
-    let m : tie.After-is-move = search in
+    let m : tie.After-is_move = search in
     omega (arith, ((cells_checked _ _ _ _).0 (granted m.is_move.ensures (search))).0.long)
 
-set-of-requires : tie.Need-set-of-requires
+set-of-requires : tie.Need-set_of-requires
 set-of-requires c κs =
-    let m : tie.After-is-move = search in
+    let m : tie.After-is_move = search in
     ((cells_checked _ _ _ _).0 (granted m.is_move.ensures (search))).0
 
-carry-requires : tie.Need-carry-requires
+carry-requires : tie.Need-carry-differ-requires
 carry-requires c κs =
-    let y : tie.After-set-of = search in
-    let z : tie.After-cell-at = search in
-    let m : tie.After-is-move = search in
-    may_carry (granted m.is_move.ensures (search)) (sound_on_all (marked (search) (search))) z.Cell-at.ensures y.set-of.ensures
+    let y : tie.After-set_of = search in
+    let z : tie.After-cell_at = search in
+    let m : tie.After-is_move = search in
+    may_carry (granted m.is_move.ensures (search)) (sound_on_all (marked (search) (search))) z.cell_at.ensures y.set_of.ensures
 
-same-length-3 : tie.Need-same-length-3
-same-length-3 c = let d : tie.After-carry = search in d.carry.kept.0
-
-returns-3 : tie.Need-returns-3
+returns-3 : tie.Need-returns
 returns-3 c =
-    let d : tie.After-carry = search in
-    let y : tie.After-set-of = search in
-    let z : tie.After-cell-at = search in
-    let m : tie.After-is-move = search in
+    let d : tie.After-carry-differ = search in
+    let y : tie.After-set_of = search in
+    let z : tie.After-cell_at = search in
+    let m : tie.After-is_move = search in
     let legal = granted m.is_move.ensures (search) in
-    move_done (marked (search) (search)) legal z.Cell-at.ensures y.set-of.ensures d.carry.ensures
+    move_done (marked (search) (search)) legal z.cell_at.ensures y.set_of.ensures d.carry-differ.ensures
 
-pub carry-out-spec : {M : Type 1} → statement M
-carry-out-spec =
+pub carry_out_spec : {M : Type 1} → statement M
+carry_out_spec =
     tie.close
     (tie.spec
     (λ c κs. search rules)
@@ -78,5 +75,5 @@ carry-out-spec =
     cell-at-requires
     set-of-requires
     carry-requires
-    same-length-3
+    (λ c. search rules)
     returns-3)

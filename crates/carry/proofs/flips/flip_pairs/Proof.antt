@@ -10,92 +10,92 @@ use Rattle.carry.proofs.Carrying.{y_fits}
 use Rattle.carry.proofs.flips.flip_pairs.Statement.{statement}
 use Rattle.carry.proofs.flips.flip_pairs.Tie as tie
 
-abbrev invariant-loop : tie.invariant-loop
+abbrev invariant-loop : tie.invariant-loop-i
 invariant-loop marks₀ z ys up₀ i₀ marks up i = (i ≤ length ys) × FlippedTo marks₀ z ys i marks up
 
-abbrev decreases-loop : tie.decreases-loop
+abbrev decreases-loop : tie.decreases-loop-i
 decreases-loop marks₀ z ys up₀ i₀ marks up i = length ys - i
 
 abbrev Head : Type 0
-Head = tie.At-loop invariant-loop decreases-loop
+Head = tie.At-loop-i invariant-loop decreases-loop
 
 abbrev First : Type 0
 First = tie.Start invariant-loop decreases-loop
 
 abbrev Cell : Type 0
-Cell = tie.After-cell-at invariant-loop decreases-loop
+Cell = tie.After-cell_at-y invariant-loop decreases-loop
 
 abbrev Looked : Type 0
-Looked = tie.After-mark-at invariant-loop decreases-loop
+Looked = tie.After-mark_at invariant-loop decreases-loop
 
-loop-holds : tie.Need-loop-init invariant-loop decreases-loop
-loop-holds c = let s : First = search in (search rules, flipped_none s.pre)
+loop-holds : tie.Need-loop-i-init invariant-loop decreases-loop
+loop-holds c = let s : First = search in (search rules, flipped_none s.requires)
 
 -- y and y xor z are parities
-y-parity : (y : Cell) → y.Cell-at.result < parities
+y-parity : (y : Cell) → y.cell_at-y.result < parities
 y-parity y =
     let at : Head = search in
     let s : First = search in
-    omega (arith, y_fits s.pre at.loop.i (omega arith))
+    omega (arith, y_fits s.requires at.loop-i.i (omega arith))
 
 -- the mark of y is 0 or 1
-small : (m : Looked) → m.mark-at.result < 2
+small : (m : Looked) → m.mark_at.result < 2
 small m =
     let y : Cell = search in
     let at : Head = search in
     let s : First = search in
-    omega (arith, m.mark-at.ensures, mark_small s.pre at.loop.inv.1 (omega arith) y.Cell-at.ensures)
+    omega (arith, m.mark_at.ensures, mark_small s.requires at.loop-i.invariant.1 (omega arith) y.cell_at-y.ensures)
 
-mark-at-requires : tie.Need-mark-at-requires invariant-loop decreases-loop
+mark-at-requires : tie.Need-mark_at-requires invariant-loop decreases-loop
 mark-at-requires c κs = (search rules, y-parity (search))
 
-add-up : tie.Need-overflow-add-up invariant-loop decreases-loop
+add-up : tie.Need-overflow_add-up invariant-loop decreases-loop
 add-up c =
     let m : Looked = search in
     let at : Head = search in
     let s : First = search in
-    record { fits = omega (arith, small m, few_up s.pre at.loop.inv.1 (omega arith)) }
+    record { fits = omega (arith, small m, few_up s.requires at.loop-i.invariant.1 (omega arith)) }
 
-flip-mark-requires : tie.Need-flip-mark-requires invariant-loop decreases-loop
+flip-mark-requires : tie.Need-flip_mark-requires invariant-loop decreases-loop
 flip-mark-requires c κs = (search rules, y-parity (search))
 
-flip-mark-requires-2 : tie.Need-flip-mark-requires-2 invariant-loop decreases-loop
+flip-mark-requires-2 : tie.Need-flip_mark-requires-in-loop-i invariant-loop decreases-loop
 flip-mark-requires-2 c κs =
     let y : Cell = search in
     let s : First = search in
-    (search rules, xor_lt max_wires y.Cell-at.result s.args.z (y-parity y) s.pre.fits)
+    (search rules, xor_lt max_wires y.cell_at-y.result s.args.z (y-parity y) s.requires.fits)
 
-loop-again : tie.Need-loop-preserved invariant-loop decreases-loop
+loop-again : tie.Need-loop-i-preserved invariant-loop decreases-loop
 loop-again c =
-    let second : tie.After-flip-mark2 invariant-loop decreases-loop = search in
-    let first : tie.After-flip-mark invariant-loop decreases-loop = search in
+    let second : tie.After-flip_mark-in-loop-i invariant-loop decreases-loop = search in
+    let first : tie.After-flip_mark invariant-loop decreases-loop = search in
     let m : Looked = search in
     let y : Cell = search in
     let at : Head = search in
     let s : First = search in (
       search rules,
-      flipped_next s.pre at.loop.inv.1 (omega arith) y.Cell-at.ensures m.mark-at.ensures first.flip-mark.ensures
-          second.flip-mark2.ensures,
+      flipped_next s.requires at.loop-i.invariant.1 (omega arith) y.cell_at-y.ensures m.mark_at.ensures first.flip_mark.ensures
+          second.flip_mark-in-loop-i.ensures,
     )
 
 -- as many more as less at the least, and not too many
-result_fits : tie.Need-overflow-mul-result invariant-loop decreases-loop
+result_fits : tie.Need-overflow_mul-result invariant-loop decreases-loop
 result_fits c =
     let at : Head = search in
     let s : First = search in
-    record { fits = omega (arith, few_up s.pre at.loop.inv.1 (omega arith)) }
+    record { fits = omega (arith, few_up s.requires at.loop-i.invariant.1 (omega arith)) }
 
-sub-result : tie.Need-overflow-sub-result invariant-loop decreases-loop
-sub-result c = let at : Head = search in omega (arith, at.loop.inv.1.counted)
+sub-result : tie.Need-overflow_sub-result invariant-loop decreases-loop
+sub-result c = let at : Head = search in omega (arith, at.loop-i.invariant.1.counted)
 
 returns : tie.Need-returns invariant-loop decreases-loop
 returns c =
     let at : Head = search in
     let s : First = search in
-    flipped_all s.pre at.loop.inv.1 (omega arith) (omega arith) (omega (arith, at.loop.inv.1.counted))
+    flipped_all s.requires at.loop-i.invariant.1 (omega arith) (omega arith) (omega (arith, at.loop-i.invariant.1.counted))
 
-pub flip-pairs-spec : {M : Type 1} → statement M
-flip-pairs-spec =
+pub flip_pairs_spec : {M : Type 1} → statement M
+flip_pairs_spec =
     tie.close
     (tie.spec
     invariant-loop

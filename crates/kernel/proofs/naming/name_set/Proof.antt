@@ -9,65 +9,65 @@ use Rattle.kernel.proofs.SetsNamed.{NamedTo, member_fits, naming_end, naming_lon
 use Rattle.kernel.proofs.naming.name_set.Statement.{statement}
 use Rattle.kernel.proofs.naming.name_set.Tie as tie
 
-abbrev invariant-loop : tie.invariant-loop
+abbrev invariant-loop : tie.invariant-loop-s
 invariant-loop m a member set₀ total₀ top₀ s₀ set total top s = NamedTo a m member s set total top
 
-abbrev decreases-loop : tie.decreases-loop
+abbrev decreases-loop : tie.decreases-loop-s
 decreases-loop m a member set₀ total₀ top₀ s₀ set total top s = product_bits - s
 
 abbrev Head : Type 0
-Head = tie.At-loop invariant-loop decreases-loop
+Head = tie.At-loop-s invariant-loop decreases-loop
 
 abbrev Entry : Type 0
 Entry = tie.Start invariant-loop decreases-loop
 
-loop-holds : tie.Need-loop-init invariant-loop decreases-loop
+loop-holds : tie.Need-loop-s-init invariant-loop decreases-loop
 loop-holds c =
-    let first : tie.After-next-slot invariant-loop decreases-loop = search in
+    let first : tie.After-next_slot-s invariant-loop decreases-loop = search in
     let s : Entry = search in
-    naming_start s.args.m s.args.member.now s.pre.1 s.pre.2 first.next-slot.ensures
+    naming_start s.args.m s.args.member.now s.requires.1 s.requires.2 first.next_slot-s.ensures
 
-cell-at-requires : tie.Need-cell-at-requires invariant-loop decreases-loop
-cell-at-requires c κs = let s : Entry = search in omega (arith, s.pre.0.long)
+cell-at-requires : tie.Need-cell_at-y-requires invariant-loop decreases-loop
+cell-at-requires c κs = let s : Entry = search in omega (arith, s.requires.0.long)
 
-flip-mark-requires : tie.Need-flip-mark-requires invariant-loop decreases-loop
+flip-mark-requires : tie.Need-flip_mark-requires invariant-loop decreases-loop
 flip-mark-requires c κs =
-    let y : tie.After-cell-at invariant-loop decreases-loop = search in
+    let y : tie.After-cell_at-y invariant-loop decreases-loop = search in
     let at : Head = search in
     let s : Entry = search in
-    (naming_long at.loop.inv, member_fits s.pre.0 (omega arith) y.Cell-at.ensures)
+    (naming_long at.loop-s.invariant, member_fits s.requires.0 (omega arith) y.cell_at-y.ensures)
 
-loop-again : tie.Need-loop-preserved invariant-loop decreases-loop
+loop-again : tie.Need-loop-s-preserved invariant-loop decreases-loop
 loop-again c =
-    let next : tie.After-next-slot2 invariant-loop decreases-loop = search in
-    let flipped : tie.After-flip-mark invariant-loop decreases-loop = search in
-    let y : tie.After-cell-at invariant-loop decreases-loop = search in
+    let next : tie.After-next_slot-s-in-loop-s invariant-loop decreases-loop = search in
+    let flipped : tie.After-flip_mark invariant-loop decreases-loop = search in
+    let y : tie.After-cell_at-y invariant-loop decreases-loop = search in
     let at : Head = search in
     let s : Entry = search in
-    naming_turn at.loop.inv s.pre.0 (omega arith) y.Cell-at.ensures flipped.flip-mark.ensures next.next-slot2.ensures
+    naming_turn at.loop-s.invariant s.requires.0 (omega arith) y.cell_at-y.ensures flipped.flip_mark.ensures next.next_slot-s-in-loop-s.ensures
 
-flip-mark-requires-2 : tie.Need-flip-mark-requires-2 invariant-loop decreases-loop
+flip-mark-requires-2 : tie.Need-flip_mark-requires-2 invariant-loop decreases-loop
 flip-mark-requires-2 c κs =
     let at : Head = search in
     let s : Entry = search in
-    (naming_long at.loop.inv, s.pre.1)
+    (naming_long at.loop-s.invariant, s.requires.1)
 
-same_length : tie.Need-same-length invariant-loop decreases-loop
+same_length : tie.Need-shape_of-set invariant-loop decreases-loop
 same_length c =
-    let flipped : tie.After-flip-mark2 invariant-loop decreases-loop = search in
+    let flipped : tie.After-flip_mark-2 invariant-loop decreases-loop = search in
     let at : Head = search in
     let s : Entry = search in
-    flipped.flip-mark2.kept.0 ∙ naming_long at.loop.inv ∙ sym (ap length s.pre.2 ∙ length-replicate {A = ℕ} table_bytes 0)
+    flipped.flip_mark-2.auto.marks ∙ naming_long at.loop-s.invariant ∙ sym (ap length s.requires.2 ∙ length-replicate {A = ℕ} table_bytes 0)
 
 returns : tie.Need-returns invariant-loop decreases-loop
 returns c =
-    let flipped : tie.After-flip-mark2 invariant-loop decreases-loop = search in
+    let flipped : tie.After-flip_mark-2 invariant-loop decreases-loop = search in
     let at : Head = search in
     let s : Entry = search in
-    naming_end at.loop.inv s.pre.0 s.pre.1 (omega arith) flipped.flip-mark2.ensures
+    naming_end at.loop-s.invariant s.requires.0 s.requires.1 (omega arith) flipped.flip_mark-2.ensures
 
-pub name-set-spec : {M : Type 1} → statement M
-name-set-spec =
+pub name_set_spec : {M : Type 1} → statement M
+name_set_spec =
     tie.close
     (tie.spec
     invariant-loop

@@ -12,23 +12,23 @@ use Rattle.rests.proofs.weighing.put_by_sums.Tie as tie
 room : (s : tie.Start) → 2 ^ s.args.n ≤ parities
 room s = pow_mono {i = s.args.n} {j = max_wires} s.requires.2.few
 
-put-difference-sums-requires : tie.Need-put-difference-sums-requires
+put-difference-sums-requires : tie.Need-put_difference_sums-requires
 put-difference-sums-requires c κs =
     let s : tie.Start = search in
     let n = s.args.n in
-    let a = s.pre in
+    let a = s.requires in
     (a.2, weights_summable parities n s.args.w.now (room s) a.0, marks_summable parities n s.args.u.now (room s) a.1)
 
 returns : tie.Need-returns
 returns c =
-    let r : tie.After-add-rests = search in
-    let v : tie.After-copy-bytes = search in
-    let t : tie.After-put-difference-sums = search in
+    let r : tie.After-add_rests = search in
+    let v : tie.After-copy_bytes = search in
+    let t : tie.After-put_difference_sums = search in
     let s : tie.Start = search in
-    new_made (room s) s.pre.0 s.pre.1 t.put-difference-sums.ensures v.copy-bytes.ensures r.add-rests.ensures
+    new_made (room s) s.requires.0 s.requires.1 t.put_difference_sums.ensures v.copy_bytes.ensures r.add_rests.ensures
 
-pub put-by-sums-spec : {M : Type 1} → statement M
-put-by-sums-spec =
+pub put_by_sums_spec : {M : Type 1} → statement M
+put_by_sums_spec =
     tie.close
     (tie.spec
     put-difference-sums-requires

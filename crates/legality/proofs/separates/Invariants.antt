@@ -1,0 +1,17 @@
+-- For none of those passed is a xor z a member outside.
+use Prim.Native.Nat.{◌-◌, ◌≤◌}
+use native.Mathlib.Omega.{arith}
+use lib.Bits.{bit_xor}
+use lib.ListN.{length}
+use borrow.Author.Rules.{rules}
+use Rattle.gf2.proofs.Answers.{answer_no, answer_yes}
+use Rattle.legality.proofs.Conditions.{outside_padded}
+use Rattle.legality.proofs.Deciding.{Passed, passed_more, passed_none, separates_found, separates_none}
+use Rattle.legality.specs.Tested.{Outside}
+use Rattle.legality.proofs.separates.Given as goal
+
+abbrev pub invariant-loop-i : goal.invariant-loop-i
+invariant-loop-i l = (l.i ≤ length l.ys) × Passed (λ y. Outside l.marks l.ys (bit_xor y l.z) → ⊥) l.ys l.i
+
+abbrev pub decreases-loop-i : goal.decreases-loop-i
+decreases-loop-i l = length l.ys - l.i
