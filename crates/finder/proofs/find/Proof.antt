@@ -12,44 +12,44 @@ use Rattle.finder.proofs.find.Tie as tie
 
 -- the place where the call is judged, and the entry, seen from there
 abbrev Judged : Type 0
-Judged = tie.After-marks-call-fault
+Judged = tie.After-marks_call_fault-fault
 
 abbrev entry : Judged → tie.Start
 entry j = search
 
 judged : (j : Judged)
-    → j.marks-call-fault.result ≡ find_fault (entry j).args.n (entry j).args.marks.now (length (entry j).args.cells.now)
+    → j.marks_call_fault-fault.result ≡ find_fault (entry j).args.n (entry j).args.marks.now (length (entry j).args.cells.now)
 judged j =
-    let l : tie.After-lent-fault = search in
+    let l : tie.After-lent_fault = search in
     let a = (entry j).args in
-    j.marks-call-fault.ensures ∙ ap (λ (x : ℕ). call_fault a.n x (marks_fault a.n a.marks.now)) l.lent-fault.ensures
+    j.marks_call_fault-fault.ensures ∙ ap (λ (x : ℕ). call_fault a.n x (marks_fault a.n a.marks.now)) l.lent_fault.ensures
 
-returns : tie.Need-returns
-returns c = find_refused _ _ _ _ (judged (search)) c.if1.true
+returns : tie.Need-returns-then-fault-ne0
+returns c = find_refused _ _ _ _ (judged (search)) c.if-fault-ne0.true
 
-search-by-requires : tie.Need-search-by-requires
+search-by-requires : tie.Need-search_by-requires
 search-by-requires c κs =
-    let table : tie.After-products = search in
-    let clear : tie.Else1 = search in
+    let table : tie.After-products-table = search in
+    let clear : tie.Else-fault-ne0 = search in
     let j : Judged = search in
     let a = (entry j).args in
-    (table.products.ensures, may_search a.n a.marks.now a.cells.now j.marks-call-fault.result (judged j) (omega arith))
+    (table.products-table.ensures, may_search a.n a.marks.now a.cells.now j.marks_call_fault-fault.result (judged j) (omega arith))
 
-returns-2 : tie.Need-returns-2
+returns-2 : tie.Need-returns-in-Found
 returns-2 c =
-    let found : tie.After-search-by = search in
-    let clear : tie.Else1 = search in
+    let found : tie.After-search_by = search in
+    let clear : tie.Else-fault-ne0 = search in
     let j : Judged = search in
-    find_found _ _ _ j.marks-call-fault.result (judged j) (omega arith) _
-    (rw c.enum_told.given.1 at found.search-by.ensures)
+    find_found _ _ _ j.marks_call_fault-fault.result (judged j) (omega arith) _
+    (rw c.in-Found.is at found.search_by.ensures)
 
-returns-3 : tie.Need-returns-3
+returns-3 : tie.Need-returns-in-Nothing
 returns-3 c =
-    let found : tie.After-search-by = search in
-    let clear : tie.Else1 = search in
+    let found : tie.After-search_by = search in
+    let clear : tie.Else-fault-ne0 = search in
     let j : Judged = search in
-    find_nothing _ _ _ j.marks-call-fault.result (judged j) (omega arith) _
-    (rw c.enum-told2.given.1 at found.search-by.ensures)
+    find_nothing _ _ _ j.marks_call_fault-fault.result (judged j) (omega arith) _
+    (rw c.in-Nothing.is at found.search_by.ensures)
 
 pub find_spec : {M : Type 1} → statement M
 find_spec =

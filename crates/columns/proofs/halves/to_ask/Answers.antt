@@ -2,14 +2,12 @@
 use mathlib.Core.Path.{refl}
 use native.Mathlib.Omega.{arith}
 use borrow.Author.Rules.{rules}
-use Rattle.std.proofs.lemmas.Bool.{not_from_false}
-use Rattle.gf2.proofs.Answers.{denied}
 use Rattle.columns.proofs.Apart.{ask_all, ask_none, legal_pair}
 use Rattle.columns.proofs.halves.to_ask.Goals as goal
 
 pub returns-then-not-has_pair : goal.returns-then-not-has_pair
 returns-then-not-has_pair c =
-    (ask_none (legal_pair (denied c.has_pair.ensures (not_from_false _ c.if-not-has_pair.true))), refl)
+    (ask_none (legal_pair (c.has_pair.ensures.1 c.if-not-has_pair.true)), refl)
 
 pub overflow_mul-result : goal.overflow_mul-result
 overflow_mul-result c = record { fits = omega (arith, c.requires.members.few) }

@@ -20,11 +20,11 @@ use Rattle.columns.proofs.InTurn.{members_below, turn_below}
 use Rattle.finder.proofs.scan.scan.Statement.{statement}
 use Rattle.finder.proofs.scan.scan.Tie as tie
 
-abbrev invariant-loop : tie.invariant-loop
+abbrev invariant-loop : tie.invariant-loop-i
 invariant-loop n products marks ys cells₀ most room half vec₀ by₀ member₀ best₀ k z t m filled₀ i₀ k-end cells vec by member best filled i =
     (best ≡ Nothing) × (cells ≡ cells₀) × (i ≤ m) × AskedBefore marks ys z t i filled vec by member
 
-abbrev decreases-loop : tie.decreases-loop
+abbrev decreases-loop : tie.decreases-loop-i
 decreases-loop n products marks ys cells₀ most room half vec₀ by₀ member₀ best₀ k z t m filled₀ i₀ k-end cells vec by member best filled i = m - i
 
 abbrev invariant-search : tie.invariant-search
@@ -36,7 +36,7 @@ decreases-search n products marks ys cells₀ most room₀ half₀ vec₀ by₀ 
 
 -- the loop over the turns, the loop over z, and the entry
 abbrev Inner : Type 0
-Inner = tie.At-loop invariant-loop decreases-loop invariant-search decreases-search
+Inner = tie.At-loop-i invariant-loop decreases-loop invariant-search decreases-search
 
 abbrev Outer : Type 0
 Outer = tie.At-search invariant-loop decreases-loop invariant-search decreases-search
@@ -46,17 +46,17 @@ Entry = tie.Start invariant-loop decreases-loop invariant-search decreases-searc
 
 -- 2^n, as the machine shifts
 end_is : (s : Entry) → 1 * 2 ^ s.args.n % 2 ^ 64 ≡ 2 ^ s.args.n
-end_is s = shifted 64 s.args.n (omega (arith, s.pre.1.0.2))
+end_is s = shifted 64 s.args.n (omega (arith, s.requires.1.0.2))
 
-mul_most : tie.Need-overflow-mul-most invariant-loop decreases-loop invariant-search decreases-search
+mul_most : tie.Need-overflow_mul-most invariant-loop decreases-loop invariant-search decreases-search
 mul_most c =
     let s : Entry = search in
     let small : s.args.n * (s.args.n - 1) ≤ max_wires * max_wires =
-    mul-le-mul {n₁ = s.args.n} {m₁ = s.args.n - 1} {n₂ = max_wires} {m₂ = max_wires} s.pre.1.0.2 (omega (arith, s.pre.1.0.2)) in
+    mul-le-mul {n₁ = s.args.n} {m₁ = s.args.n - 1} {n₂ = max_wires} {m₂ = max_wires} s.requires.1.0.2 (omega (arith, s.requires.1.0.2)) in
     record { fits = omega (arith, small) }
 
-shl-k-end : tie.Need-overflow-shl-k-end invariant-loop decreases-loop invariant-search decreases-search
-shl-k-end c = let s : Entry = search in omega (arith, s.pre.1.0.2)
+shl-k-end : tie.Need-overflow_shl-k-end invariant-loop decreases-loop invariant-search decreases-search
+shl-k-end c = let s : Entry = search in omega (arith, s.requires.1.0.2)
 
 search-holds : tie.Need-search-init invariant-loop decreases-loop invariant-search decreases-search
 search-holds c =
@@ -90,146 +90,146 @@ head u = search
 inside : (u : Turning) → (head u).search.k < parities
 inside u =
     let s = entry (head u) in
-    omega (arith, end_is s, pow_mono {i = s.args.n} {j = max_wires} s.pre.1.0.2)
+    omega (arith, end_is s, pow_mono {i = s.args.n} {j = max_wires} s.requires.1.0.2)
 
-cast-z : tie.Need-overflow-cast-z invariant-loop decreases-loop invariant-search decreases-search
+cast-z : tie.Need-overflow_cast-z invariant-loop decreases-loop invariant-search decreases-search
 cast-z c = record { fits = omega (arith, inside c) }
 
-leading-requires : tie.Need-leading-requires invariant-loop decreases-loop invariant-search decreases-search
+leading-requires : tie.Need-leading-t-requires invariant-loop decreases-loop invariant-search decreases-search
 leading-requires c κs =
     let u : Turning = search in
-    (λ e. omega (arith, (head u).search.inv.2.some), omega (arith, inside u))
+    (λ e. omega (arith, (head u).search.invariant.2.some), omega (arith, inside u))
 
 -- its highest wire is found
 abbrev Led : Type 0
-Led = tie.After-leading invariant-loop decreases-loop invariant-search decreases-search
+Led = tie.After-leading-t invariant-loop decreases-loop invariant-search decreases-search
 
 abbrev turning : Led → Turning
 turning l = search
 
-wire : (l : Led) → NamesWire l.leading.result (head (turning l)).search.k
-wire l = highest_wire (inside (turning l)) l.leading.ensures
+wire : (l : Led) → NamesWire l.leading-t.result (head (turning l)).search.k
+wire l = highest_wire (inside (turning l)) l.leading-t.ensures
 
-half-at-requires : tie.Need-half-at-requires invariant-loop decreases-loop invariant-search decreases-search
+half-at-requires : tie.Need-half_at-half-requires invariant-loop decreases-loop invariant-search decreases-search
 half-at-requires c κs =
     let l : Led = search in
     let up : Outer = search in
     let s : Entry = search in (
-      s.pre.0,
+      s.requires.0,
       (
-        (members_below s.pre.1.0.0, (wire l).wire, up.search.inv.2.room_long),
-        half_for_this up.search.inv.2.half l.leading.ensures,
+        (members_below s.requires.1.0.0, (wire l).wire, up.search.invariant.2.room_long),
+        half_for_this up.search.invariant.2.half l.leading-t.ensures,
       ),
     )
 
-to-ask-requires : tie.Need-to-ask-requires invariant-loop decreases-loop invariant-search decreases-search
+to-ask-requires : tie.Need-to_ask-m-requires invariant-loop decreases-loop invariant-search decreases-search
 to-ask-requires c κs =
-    let h : tie.After-half-at invariant-loop decreases-loop invariant-search decreases-search = search in
+    let h : tie.After-half_at-half invariant-loop decreases-loop invariant-search decreases-search = search in
     let l : Led = search in
     let s : Entry = search in
-    (s.pre.0, (s.pre.1.0.0, (((wire l).wire, (wire l).below, (wire l).names), h.half_at.ensures)))
+    (s.requires.0, (s.requires.1.0.0, (((wire l).wire, (wire l).below, (wire l).names), h.half_at-half.ensures)))
 
-loop-holds : tie.Need-loop-init invariant-loop decreases-loop invariant-search decreases-search
-loop-holds c = let up : Outer = search in (up.search.inv.0, refl, omega arith, asked_start up.search.inv.2.places)
+loop-holds : tie.Need-loop-i-init invariant-loop decreases-loop invariant-search decreases-search
+loop-holds c = let up : Outer = search in (up.search.invariant.0, refl, omega arith, asked_start up.search.invariant.2.places)
 
-turn-requires : tie.Need-turn-requires invariant-loop decreases-loop invariant-search decreases-search
+turn-requires : tie.Need-turn-a-requires invariant-loop decreases-loop invariant-search decreases-search
 turn-requires c κs =
-    let ask : tie.After-to-ask invariant-loop decreases-loop invariant-search decreases-search = search in
+    let ask : tie.After-to_ask-m invariant-loop decreases-loop invariant-search decreases-search = search in
     let l : Led = search in
     let s : Entry = search in
-    (s.pre.1.0.0, ((wire l).below, (wire l).wire, omega (arith, ask.to-ask.ensures.0.fits)))
+    (s.requires.1.0.0, ((wire l).below, (wire l).wire, omega (arith, ask.to_ask-m.ensures.0.fits)))
 
 column-requires : tie.Need-column-requires invariant-loop decreases-loop invariant-search decreases-search
 column-requires c κs =
-    let a : tie.After-turn invariant-loop decreases-loop invariant-search decreases-search = search in
+    let a : tie.After-turn-a invariant-loop decreases-loop invariant-search decreases-search = search in
     let l : Led = search in
     let s : Entry = search in
-    (s.pre.0, ((wire l).wire, (wire l).below, turn_below s.pre.1.0.0 a.turn.ensures))
+    (s.requires.0, ((wire l).wire, (wire l).below, turn_below s.requires.1.0.0 a.turn-a.ensures))
 
 offer-requires : tie.Need-offer-requires invariant-loop decreases-loop invariant-search decreases-search
 offer-requires c κs =
     let v : tie.After-column invariant-loop decreases-loop invariant-search decreases-search = search in
-    let a : tie.After-turn invariant-loop decreases-loop invariant-search decreases-search = search in
+    let a : tie.After-turn-a invariant-loop decreases-loop invariant-search decreases-search = search in
     let at : Inner = search in
     let l : Led = search in
     let up : Outer = search in
     let s : Entry = search in
-    let below = turn_below s.pre.1.0.0 a.turn.ensures in (
-      (s.pre.1.0.0.sound.long, below, xor_lt max_wires _ _ below (wire l).below, v.column.ensures.1),
-      (at.loop.inv.3.slots, ap length (at.loop.inv.1 ∙ up.search.inv.1) ∙ s.pre.1.1),
+    let below = turn_below s.requires.1.0.0 a.turn-a.ensures in (
+      (s.requires.1.0.0.sound.long, below, xor_lt max_wires _ _ below (wire l).below, v.column.ensures.1),
+      (at.loop-i.invariant.3.slots, ap length (at.loop-i.invariant.1 ∙ up.search.invariant.1) ∙ s.requires.1.1),
     )
 
-loop-again : tie.Need-loop-preserved invariant-loop decreases-loop invariant-search decreases-search
+loop-again : tie.Need-loop-i-preserved invariant-loop decreases-loop invariant-search decreases-search
 loop-again c =
-    let more : tie.After-more invariant-loop decreases-loop invariant-search decreases-search = search in
+    let more : tie.In-Passed invariant-loop decreases-loop invariant-search decreases-search = search in
     let o : tie.After-offer invariant-loop decreases-loop invariant-search decreases-search = search in
     let v : tie.After-column invariant-loop decreases-loop invariant-search decreases-search = search in
-    let a : tie.After-turn invariant-loop decreases-loop invariant-search decreases-search = search in
+    let a : tie.After-turn-a invariant-loop decreases-loop invariant-search decreases-search = search in
     let at : Inner = search in
     let s = entry (outer at) in
-    let t = rw more.more.given.1 at o.offer.ensures in (
-      at.loop.inv.0,
-      t.0 ∙ at.loop.inv.1,
+    let t = rw more.in-Passed.is at o.offer.ensures in (
+      at.loop-i.invariant.0,
+      t.0 ∙ at.loop-i.invariant.1,
       omega arith,
-      asked_next s.pre.1.0.0 at.loop.inv.3 a.turn.ensures refl v.column.ensures.0 t.1,
+      asked_next s.requires.1.0.0 at.loop-i.invariant.3 a.turn-a.ensures refl v.column.ensures.0 t.1,
     )
 
-add-k : tie.Need-overflow-add-k invariant-loop decreases-loop invariant-search decreases-search
+add-k : tie.Need-overflow_step-k invariant-loop decreases-loop invariant-search decreases-search
 add-k c = record { fits = omega (arith, inside (search)) }
 
 search-again : tie.Need-search-preserved invariant-loop decreases-loop invariant-search decreases-search
 search-again c =
     let at : Inner = search in
-    let ask : tie.After-to-ask invariant-loop decreases-loop invariant-search decreases-search = search in
-    let h : tie.After-half-at invariant-loop decreases-loop invariant-search decreases-search = search in
+    let ask : tie.After-to_ask-m invariant-loop decreases-loop invariant-search decreases-search = search in
+    let h : tie.After-half_at-half invariant-loop decreases-loop invariant-search decreases-search = search in
     let l : Led = search in
     let up : Outer = search in
     let s : Entry = search in
-    let e : at.loop.i ≡ ask.to-ask.result = omega arith in
-    let half = half_kept h.half_at.ensures ask.to-ask.ensures.1 in (
-      at.loop.inv.0,
-      at.loop.inv.1 ∙ up.search.inv.1,
+    let e : at.loop-i.i ≡ ask.to_ask-m.result = omega arith in
+    let half = half_kept h.half_at-half.ensures ask.to_ask-m.ensures.1 in (
+      at.loop-i.invariant.0,
+      at.loop-i.invariant.1 ∙ up.search.invariant.1,
       record {
-        some = omega (arith, up.search.inv.2.some);
+        some = omega (arith, up.search.invariant.2.some);
         none =
-            none_below_more max_members max_wires _ up.search.inv.2.none
-            (z_passed s.pre.1.0.0 (wire l).wire (wire l).names ask.to-ask.ensures.0 (rw e at at.loop.inv.3));
-        half = half_for_next l.leading.ensures half;
+            none_below_more max_members max_wires _ up.search.invariant.2.none
+            (z_passed s.requires.1.0.0 (wire l).wire (wire l).names ask.to_ask-m.ensures.0 (rw e at at.loop-i.invariant.3));
+        half = half_for_next l.leading-t.ensures half;
         room_long = masked_long half.masked;
-        places = slot_places at.loop.inv.3.slots;
+        places = slot_places at.loop-i.invariant.3.slots;
       },
     )
 
-same_length : tie.Need-same-length invariant-loop decreases-loop invariant-search decreases-search
-same_length c = let up : Outer = search in ap length up.search.inv.1
+same_length : tie.Need-shape_of-cells-after-search invariant-loop decreases-loop invariant-search decreases-search
+same_length c = let up : Outer = search in ap length up.search.invariant.1
 
-returns : tie.Need-returns invariant-loop decreases-loop invariant-search decreases-search
+returns : tie.Need-returns-after-search invariant-loop decreases-loop invariant-search decreases-search
 returns c =
     let up : Outer = search in
     let s : Entry = search in
-    rw up.search.inv.0 (up.search.inv.1, λ z Y l. omega (arith, end_is s, up.search.inv.2.none z Y l))
+    rw up.search.invariant.0 (up.search.invariant.1, λ z Y l. omega (arith, end_is s, up.search.invariant.2.none z Y l))
 
-same-length-2 : tie.Need-same-length-2 invariant-loop decreases-loop invariant-search decreases-search
+same-length-2 : tie.Need-shape_of-cells-in-Found invariant-loop decreases-loop invariant-search decreases-search
 same-length-2 c =
     let o : tie.After-offer invariant-loop decreases-loop invariant-search decreases-search = search in
     let at : Inner = search in
     let up : Outer = search in
-    o.offer.kept.1.1.1.1.1.1.1.0 ∙ ap length (at.loop.inv.1 ∙ up.search.inv.1)
+    o.offer.auto.cells ∙ ap length (at.loop-i.invariant.1 ∙ up.search.invariant.1)
 
-returns-2 : tie.Need-returns-2 invariant-loop decreases-loop invariant-search decreases-search
+returns-2 : tie.Need-returns-in-Found invariant-loop decreases-loop invariant-search decreases-search
 returns-2 c =
     let o : tie.After-offer invariant-loop decreases-loop invariant-search decreases-search = search in
     let v : tie.After-column invariant-loop decreases-loop invariant-search decreases-search = search in
-    let a : tie.After-turn invariant-loop decreases-loop invariant-search decreases-search = search in
+    let a : tie.After-turn-a invariant-loop decreases-loop invariant-search decreases-search = search in
     let at : Inner = search in
     let l : Led = search in
     let up : Outer = search in
     let s = entry up in
-    offered_smallest s.pre.1.0.0 at.loop.inv.3 a.turn.ensures refl v.column.ensures.0 (wire l).wire
-    (wire l).below (wire l).names up.search.inv.2.none (rw c.enum_told.given.1 at o.offer.ensures)
+    offered_smallest s.requires.1.0.0 at.loop-i.invariant.3 a.turn-a.ensures refl v.column.ensures.0 (wire l).wire
+    (wire l).below (wire l).names up.search.invariant.2.none (rw c.in-Found.is at o.offer.ensures)
 
-pub scan-spec : {M : Type 1} → statement M
-scan-spec =
+pub scan_spec : {M : Type 1} → statement M
+scan_spec =
     tie.close
     (tie.spec
     invariant-loop

@@ -14,17 +14,17 @@ use Rattle.synth.proofs.faults.row_most.Tie as tie
 one : (s : tie.Start) → 1 * 2 ^ s.args.n % 2 ^ 64 ≡ 2 ^ s.args.n
 one s = shifted 64 s.args.n (omega arith)
 
-sub-result : tie.Need-overflow-sub-result
+sub-result : tie.Need-overflow_sub-result
 sub-result c = let s : tie.Start = search in omega (arith, one s, pow_pos s.args.n)
 
-cast-result : tie.Need-overflow-cast-result
-cast-result c = let s : tie.Start = search in omega (arith, one s, parities_fit s.args.n s.pre)
+cast-result : tie.Need-overflow_cast-result
+cast-result c = let s : tie.Start = search in omega (arith, one s, parities_fit s.args.n s.requires)
 
-returns : tie.Need-returns
+returns : tie.Need-returns-then-i-n
 returns c = let s : tie.Start = search in ap (λ (x : ℕ). x - 1) (one s) ∙ most_inside s.args.n s.args.i (omega arith)
 
-returns-2 : tie.Need-returns-2
+returns-2 : tie.Need-returns-else-i-n
 returns-2 c = let s : tie.Start = search in most_beyond s.args.n s.args.i (omega arith)
 
-pub row-most-spec : {M : Type 1} → statement M
-row-most-spec = tie.close (tie.spec (λ c. search rules) sub-result cast-result returns returns-2)
+pub row_most_spec : {M : Type 1} → statement M
+row_most_spec = tie.close (tie.spec (λ c. search rules) sub-result cast-result returns returns-2)

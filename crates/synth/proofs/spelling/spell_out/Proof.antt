@@ -22,37 +22,37 @@ module _ (s : tie.Start) (gs : List Gate) (e : spell s.args.v s.args.t ≡ gs) w
 
 push-requires : tie.Need-push-requires
 push-requires c κs =
-    let one : tie.After-kind = search in
-    let r : tie.After-kinds-for = search in
-    room (search) _ (spell_one _ _ r.kinds-for.result r.kinds-for.ensures _ one.kind.given.1)
+    let one : tie.In-One = search in
+    let r : tie.After-kinds_for = search in
+    room (search) _ (spell_one _ _ r.kinds_for.result r.kinds_for.ensures _ one.in-One.is)
 
-push-two-requires : tie.Need-push-two-requires
+push-two-requires : tie.Need-push_two-requires
 push-two-requires c κs =
-    let two : tie.After-first = search in
-    let r : tie.After-kinds-for = search in
-    room (search) _ (spell_two _ _ r.kinds-for.result r.kinds-for.ensures _ _ two.first.given.1)
+    let two : tie.In-Two = search in
+    let r : tie.After-kinds_for = search in
+    room (search) _ (spell_two _ _ r.kinds_for.result r.kinds_for.ensures _ _ two.in-Two.is)
 
-returns : tie.Need-returns
+returns : tie.Need-returns-in-Nothing
 returns c =
-    let r : tie.After-kinds-for = search in
-    stored (search) _ (spell_none _ _ r.kinds-for.result r.kinds-for.ensures c.enum_told.given.1) (stored_none _ _)
+    let r : tie.After-kinds_for = search in
+    stored (search) _ (spell_none _ _ r.kinds_for.result r.kinds_for.ensures c.in-Nothing.is) (stored_none _ _)
 
-returns-2 : tie.Need-returns-2
+returns-2 : tie.Need-returns-in-One
 returns-2 c =
     let p : tie.After-push = search in
-    let one : tie.After-kind = search in
-    let r : tie.After-kinds-for = search in
-    stored (search) _ (spell_one _ _ r.kinds-for.result r.kinds-for.ensures _ one.kind.given.1) p.push.ensures
+    let one : tie.In-One = search in
+    let r : tie.After-kinds_for = search in
+    stored (search) _ (spell_one _ _ r.kinds_for.result r.kinds_for.ensures _ one.in-One.is) p.push.ensures
 
-returns-3 : tie.Need-returns-3
+returns-3 : tie.Need-returns-in-Two
 returns-3 c =
-    let p : tie.After-push-two = search in
-    let two : tie.After-first = search in
-    let r : tie.After-kinds-for = search in
-    stored (search) _ (spell_two _ _ r.kinds-for.result r.kinds-for.ensures _ _ two.first.given.1) p.push-two.ensures
+    let p : tie.After-push_two = search in
+    let two : tie.In-Two = search in
+    let r : tie.After-kinds_for = search in
+    stored (search) _ (spell_two _ _ r.kinds_for.result r.kinds_for.ensures _ _ two.in-Two.is) p.push_two.ensures
 
-pub spell-out-spec : {M : Type 1} → statement M
-spell-out-spec =
+pub spell_out_spec : {M : Type 1} → statement M
+spell_out_spec =
     tie.close
     (tie.spec
     (λ c κs. search rules)

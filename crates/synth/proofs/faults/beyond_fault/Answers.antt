@@ -1,0 +1,25 @@
+-- No row before row i is beyond n: the fault of the rest is that of all.
+use mathlib.Core.Path.{◌∙◌, ◌≡◌}
+use Prim.Native.Nat.{◌-◌, ◌≤◌}
+use native.Mathlib.Omega.{arith}
+use lib.ListN.{drop, length}
+use borrow.Author.Rules.{rules}
+use Rattle.written.proofs.RowRule.{row_bad, row_end, row_good}
+use Rattle.written.specs.Faults.{beyond_fault}
+use Rattle.synth.proofs.faults.beyond_fault.Goals as goal
+
+pub returns-then-cell_at-row_most : goal.returns-then-cell_at-row_most
+returns-then-cell_at-row_most c =
+    row_bad c.args.n c.loop-i.i c.args.rows.now (omega arith) (omega (arith, c.row_most.ensures, c.cell_at.ensures))
+    ∙ c.loop-i.invariant.1
+
+pub loop-i-preserved : goal.loop-i-preserved
+loop-i-preserved c = (
+  search rules,
+  row_good c.args.n c.loop-i.i c.args.rows.now (omega arith) (omega (arith, c.row_most.ensures, c.cell_at.ensures))
+      ∙ c.loop-i.invariant.1,
+)
+
+pub returns : goal.returns
+returns c =
+    row_end c.args.n c.loop-i.i c.args.rows.now (omega arith) ∙ c.loop-i.invariant.1

@@ -1,0 +1,30 @@
+-- The CNOTs from the wires passed are stored, and i is the next wire that q names.
+use Prim.Native.Nat.{◌-◌}
+use native.Mathlib.Omega.{arith}
+use borrow.Author.Rules.{rules}
+use Rattle.synth.proofs.PhaseTurns.{CnotsTo, cnots_end, cnots_first, cnots_room, cnots_turn}
+use Rattle.synth.proofs.Stores.{stored_same}
+use Rattle.synth.proofs.storing.push_cnots.Goals as goal
+
+pub loop-i-init : goal.loop-i-init
+loop-i-init c =
+    cnots_first c.args.n c.args.q c.args.t c.args.gates.now c.args.k c.next_wire-i.ensures
+
+pub push-j-requires : goal.push-j-requires
+push-j-requires c =
+    cnots_room c.loop-i.invariant c.requires.0 (omega arith) c.requires.1
+
+pub loop-i-smaller : goal.loop-i-smaller
+loop-i-smaller c =
+    omega (arith, c.next_wire-i-in-loop-i.ensures.from)
+
+pub loop-i-preserved : goal.loop-i-preserved
+loop-i-preserved c =
+    cnots_turn c.loop-i.invariant c.requires.0 (omega arith) c.push-j.ensures c.next_wire-i-in-loop-i.ensures
+
+pub shape_of-gates : goal.shape_of-gates
+shape_of-gates c = stored_same c.loop-i.invariant.stored
+
+pub returns : goal.returns
+returns c =
+    cnots_end c.loop-i.invariant (omega arith)
