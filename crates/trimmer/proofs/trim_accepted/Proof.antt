@@ -6,74 +6,74 @@ use Rattle.trimmer.proofs.trim_accepted.Statement.{statement}
 use Rattle.trimmer.proofs.trim_accepted.Tie as tie
 
 -- the places where C is read, its odd set marked, the moves made, the new weights found; the entry and each other, seen from there
-abbrev entry : tie.After-read-gates → tie.Start
+abbrev entry : tie.After-read_gates-t → tie.Start
 entry t = search
 
-is_read : (t : tie.After-read-gates) →
+is_read : (t : tie.After-read_gates-t) →
     ReadC (entry t).args.n (entry t).args.gates.now (entry t).args.out.now (entry t).args.log.now
-    t.read-gates.result.weights t.read-gates.result.rows
-is_read t = record { trimmable = (entry t).requires; reads = t.read-gates.ensures.reads }
+    t.read_gates-t.result.weights t.read_gates-t.result.rows
+is_read t = record { trimmable = (entry t).requires; reads = t.read_gates-t.ensures.reads }
 
-read-gates-requires : tie.Need-read-gates-requires
-read-gates-requires c κs = let s : tie.Start = search in (s.pre.accepted.few, s.pre.accepted.formed)
+read-gates-requires : tie.Need-read_gates-t-requires
+read-gates-requires c κs = let s : tie.Start = search in (s.requires.accepted.few, s.requires.accepted.formed)
 
-members-of-requires : tie.Need-members-of-requires
+members-of-requires : tie.Need-members_of-odd-requires
 members-of-requires c κs =
-    let o : tie.After-put-odd-set = search in
-    marked_first (record { read = is_read (search); odd = o.put-odd-set.ensures })
+    let o : tie.After-put_odd_set = search in
+    marked_first (record { read = is_read (search); odd = o.put_odd_set.ensures })
 
-make-moves-requires : tie.Need-make-moves-requires
+make-moves-requires : tie.Need-make_moves-moves-requires
 make-moves-requires c κs =
-    let o : tie.After-put-odd-set = search in
+    let o : tie.After-put_odd_set = search in
     let s : tie.Start = search in
-    (marked_first (record { read = is_read (search); odd = o.put-odd-set.ensures }), s.pre.log_room)
+    (marked_first (record { read = is_read (search); odd = o.put_odd_set.ensures }), s.requires.log_room)
 
-members-of-requires-2 : tie.Need-members-of-requires-2
+members-of-requires-2 : tie.Need-members_of-tout-requires
 members-of-requires-2 c κs =
-    let m : tie.After-make-moves = search in
-    let o : tie.After-put-odd-set = search in
-    marked_last (record { marked = record { read = is_read (search); odd = o.put-odd-set.ensures }; all = m.make-moves.ensures })
+    let m : tie.After-make_moves-moves = search in
+    let o : tie.After-put_odd_set = search in
+    marked_last (record { marked = record { read = is_read (search); odd = o.put_odd_set.ensures }; all = m.make_moves-moves.ensures })
 
-put-new-weights-requires : tie.Need-put-new-weights-requires
+put-new-weights-requires : tie.Need-put_new_weights-requires
 put-new-weights-requires c κs =
-    let m : tie.After-make-moves = search in
-    let o : tie.After-put-odd-set = search in
-    let t : tie.After-read-gates = search in
-    let last = marked_last (record { marked = record { read = is_read t; odd = o.put-odd-set.ensures }; all = m.make-moves.ensures }) in
+    let m : tie.After-make_moves-moves = search in
+    let o : tie.After-put_odd_set = search in
+    let t : tie.After-read_gates-t = search in
+    let last = marked_last (record { marked = record { read = is_read t; odd = o.put_odd_set.ensures }; all = m.make_moves-moves.ensures }) in
     (last.few, sound_weights (is_read t), last.sound, refl)
 
-slice-aggregate-write-sound-2 : tie.Need-slice-aggregate-write-sound-2
+slice-aggregate-write-sound-2 : tie.Need-slice_bounds-write_sound-end-2
 slice-aggregate-write-sound-2 c = sym (sound_rows (is_read (search))).long
 
-write-sound-requires : tie.Need-write-sound-requires
+write-sound-requires : tie.Need-write_sound-count-requires
 write-sound-requires c κs =
-    let v : tie.After-put-new-weights = search in
-    let m : tie.After-make-moves = search in
-    let o : tie.After-put-odd-set = search in
+    let v : tie.After-put_new_weights = search in
+    let m : tie.After-make_moves-moves = search in
+    let o : tie.After-put_odd_set = search in
     writable
     (record {
-      moved = record { marked = record { read = is_read (search); odd = o.put-odd-set.ensures }; all = m.make-moves.ensures };
-      new_is = v.put-new-weights.ensures;
+      moved = record { marked = record { read = is_read (search); odd = o.put_odd_set.ensures }; all = m.make_moves-moves.ensures };
+      new_is = v.put_new_weights.ensures;
     })
 
 returns : tie.Need-returns
 returns c =
-    let d : tie.After-write-sound = search in
-    let v : tie.After-put-new-weights = search in
-    let last : tie.After-members-of2 = search in
-    let m : tie.After-make-moves = search in
-    let first : tie.After-members-of = search in
-    let o : tie.After-put-odd-set = search in
-    let t : tie.After-read-gates = search in
+    let d : tie.After-write_sound-count = search in
+    let v : tie.After-put_new_weights = search in
+    let last : tie.After-members_of-tout = search in
+    let m : tie.After-make_moves-moves = search in
+    let first : tie.After-members_of-odd = search in
+    let o : tie.After-put_odd_set = search in
+    let t : tie.After-read_gates-t = search in
     finish
     (record {
-      moved = record { marked = record { read = is_read t; odd = o.put-odd-set.ensures }; all = m.make-moves.ensures };
-      new_is = v.put-new-weights.ensures;
+      moved = record { marked = record { read = is_read t; odd = o.put_odd_set.ensures }; all = m.make_moves-moves.ensures };
+      new_is = v.put_new_weights.ensures;
     })
-    d.write-sound.ensures _ t.read-gates.ensures.t_counted first.members-of.ensures last.members-of2.ensures refl refl
+    d.write_sound-count.ensures _ t.read_gates-t.ensures.t_counted first.members_of-odd.ensures last.members_of-tout.ensures refl refl
 
-pub trim-accepted-spec : {M : Type 1} → statement M
-trim-accepted-spec =
+pub trim_accepted_spec : {M : Type 1} → statement M
+trim_accepted_spec =
     tie.close
     (tie.spec
     read-gates-requires

@@ -8,13 +8,11 @@ use borrow.Author.Rules.{rules}
 use borrow.Author.Tests.{le-leb, lt-leb}
 use Rattle.carry.proofs.Laws.{part_short, part_whole}
 use Rattle.circuit.specs.Limits.{move_cells}
-use Rattle.capi.proofs.sulmedra_move_at.Statement.{statement}
-use Rattle.capi.proofs.sulmedra_move_at.Tie as tie
+use Rattle.capi.proofs.sulmedra_move_at.Goals as goal
 
-returns : tie.Need-returns
-returns c =
-    let start : tie.Start = search in
-    let a = start.args in
+pub returns-then-k-log : goal.returns-then-k-log
+returns-then-k-log c =
+    let a = c.args in
     let log = a.log.now in
     let whole = part_whole log a.k (omega arith) in
     record {
@@ -26,10 +24,9 @@ returns c =
       is = sym whole;
     }
 
-returns-2 : tie.Need-returns-2
-returns-2 c =
-    let start : tie.Start = search in
-    let a = start.args in
+pub returns-else-k-log : goal.returns-else-k-log
+returns-else-k-log c =
+    let a = c.args in
     let log = a.log.now in
     let short = part_short log a.k (omega arith) in
     record {
@@ -37,6 +34,3 @@ returns-2 c =
       lasts = sym (ap length short);
       is = sym short;
     }
-
-pub sulmedra-move-at-spec : {M : Type 1} → statement M
-sulmedra-move-at-spec = tie.close (tie.spec (λ c. search rules) returns returns-2)

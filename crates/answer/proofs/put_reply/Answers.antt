@@ -1,0 +1,39 @@
+-- What the text reader replies, printed.
+use native.Mathlib.Omega.{arith}
+use borrow.Author.Rules.{rules}
+use Rattle.text.proofs.TextLaws.{circuit_left, circuit_said}
+use Rattle.answer.proofs.AnswerWays.{circuit_printed, fault_printed}
+use Rattle.answer.proofs.put_reply.Goals as goal
+
+pub overflow_mul-gates : goal.overflow_mul-gates
+overflow_mul-gates c =
+    let t = c.read_text in
+    let s = circuit_said t.ensures c.in-Done.is in
+    record { fits = omega (arith, s.few) }
+
+pub slice_bounds-gates-end : goal.slice_bounds-gates-end
+slice_bounds-gates-end c =
+    let t = c.read_text in
+    circuit_left (circuit_said t.ensures c.in-Done.is)
+
+pub slice_bounds-put_circuit-end : goal.slice_bounds-put_circuit-end
+slice_bounds-put_circuit-end c =
+    let t = c.read_text in
+    let s = circuit_said t.ensures c.in-Done.is in
+    omega (arith, s.long)
+
+pub put_circuit-requires : goal.put_circuit-requires
+put_circuit-requires c =
+    let s = circuit_said c.read_text.ensures c.in-Done.is in
+    (c.requires, s.sayable)
+
+pub returns-in-Done : goal.returns-in-Done
+returns-in-Done c =
+    let t = c.read_text in
+    circuit_printed t.ensures c.in-Done.is c.put_circuit.ensures
+
+pub returns-in-Refused : goal.returns-in-Refused
+returns-in-Refused c =
+    let t = c.read_text in
+    fault_printed t.ensures (omega arith) c.in-Refused.is
+    c.put_refused.ensures

@@ -1,0 +1,11 @@
+-- The entry's own promise, and its reply as numbers.
+use borrow.Author.Rules.{rules}
+use Rattle.capi.proofs.sulmedra_answer.Goals as goal
+
+pub returns : goal.returns
+returns c =
+    let are = c.answered_in_c.ensures in
+    record {
+      called = record { reply = c.answer.result; promise = c.answer.ensures; number_is = are.0; place_is = are.1 };
+      bytes_is = are.2;
+    }

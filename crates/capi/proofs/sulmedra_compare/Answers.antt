@@ -1,0 +1,11 @@
+-- The entry's own promise, and its reply as numbers.
+use borrow.Author.Rules.{rules}
+use Rattle.capi.proofs.sulmedra_compare.Goals as goal
+
+pub returns : goal.returns
+returns c =
+    let are = c.compared_in_c.ensures in
+    record {
+      called = record { reply = c.compare.result; promise = c.compare.ensures; number_is = are.0; place_is = are.1 };
+      same_is = are.2;
+    }

@@ -1,0 +1,12 @@
+-- The entry's own promise, and its reply as numbers.
+use borrow.Author.Rules.{rules}
+use Rattle.capi.proofs.sulmedra_read_text.Goals as goal
+
+pub returns : goal.returns
+returns c =
+    let are = c.text_in_c.ensures in
+    record {
+      called = record { reply = c.read_text.result; promise = c.read_text.ensures; number_is = are.0; place_is = are.1 };
+      wires_is = are.2;
+      gates_is = are.3;
+    }

@@ -1,0 +1,15 @@
+-- The entry's own promise, and its reply as numbers.
+use borrow.Author.Rules.{rules}
+use Rattle.capi.proofs.sulmedra_trim.Goals as goal
+
+pub returns : goal.returns
+returns c =
+    let are = c.trimmed_in_c.ensures in
+    record {
+      called = record { reply = c.trim.result; promise = c.trim.ensures; number_is = are.0; place_is = are.1 };
+      tin_is = are.2;
+      odd_is = are.3;
+      tout_is = are.4;
+      moves_is = are.5;
+      gates_is = are.6;
+    }
