@@ -1,14 +1,13 @@
 -- Reading keeps weights and rows sound: by one gate, then along the list. Over n and N.
 use mathlib.Core.List.{◌++◌, List, [], ◌∷◌}
 use mathlib.Core.Logic.{◌≢◌}
-use mathlib.Core.Option.{none, some}
 use mathlib.Core.Path.{ap, refl, sym, ◌∙◌, ◌≡◌}
 use Prim.Native.Nat.{◌%◌, ◌+◌, ◌<◌, ◌^◌, ℕ, ◌≤◌}
 use native.Mathlib.Decide.{dec_lt, ℕ_discrete}
 use native.Mathlib.Omega.{arith}
 use lib.Bits.{bit_xor, xor_lt}
 use lib.ListN.{get_or-eq_default, get_or, length, length-replicate, length-set, set}
-use lib.Pow.{high, pow-lt, pow_mono, pow_pos}
+use lib.Pow.{pow-lt, pow_mono, pow_pos}
 use lib.Seq.{get_or-set_other, get_or-set_same}
 use borrow.Author.Tests.{le-ltb, lt-ltb}
 use Rattle.gf2.proofs.Bit.{bit-pow_other}

@@ -1,7 +1,6 @@
 -- Too little room, and room enough.
 use mathlib.Core.Path.{◌∙◌, sym}
 use native.Mathlib.Omega.{arith}
-use borrow.Author.Rules.{rules}
 use Rattle.circuit.proofs.Judging.{short_pass}
 use Rattle.answer.proofs.AnswerWays.{answered, too_little_room}
 use Rattle.answer.proofs.answer.Goals as goal

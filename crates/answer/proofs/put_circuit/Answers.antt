@@ -1,6 +1,5 @@
 -- What the trim replies, printed.
 use native.Mathlib.Omega.{arith}
-use borrow.Author.Rules.{rules}
 use Rattle.answer.proofs.AnswerWays.{counted, gate_printed, gates_left, gates_within, trim_printed}
 use Rattle.answer.proofs.put_circuit.Goals as goal
 

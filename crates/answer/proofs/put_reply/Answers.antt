@@ -1,6 +1,5 @@
 -- What the text reader replies, printed.
 use native.Mathlib.Omega.{arith}
-use borrow.Author.Rules.{rules}
 use Rattle.text.proofs.TextLaws.{circuit_left, circuit_said}
 use Rattle.answer.proofs.AnswerWays.{circuit_printed, fault_printed}
 use Rattle.answer.proofs.put_reply.Goals as goal

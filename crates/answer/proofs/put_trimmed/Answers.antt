@@ -1,6 +1,5 @@
 -- The lines one after the other.
 use native.Mathlib.Omega.{arith}
-use borrow.Author.Rules.{rules}
 use Rattle.circuit.proofs.Bytes.{gates_in}
 use Rattle.circuit.specs.Gate.{gates_of}
 use Rattle.text.proofs.TextLaws.{gate_lines_long}

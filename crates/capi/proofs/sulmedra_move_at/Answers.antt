@@ -4,7 +4,6 @@ use Prim.Native.Nat.{◌*◌, ◌+◌}
 use native.Mathlib.Omega.{arith}
 use lib.ListN.{drop, length, length-drop}
 use lib.Seq.{length-take-le}
-use borrow.Author.Rules.{rules}
 use borrow.Author.Tests.{le-leb, lt-leb}
 use Rattle.carry.proofs.Laws.{part_short, part_whole}
 use Rattle.circuit.specs.Limits.{move_cells}

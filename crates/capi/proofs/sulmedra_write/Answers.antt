@@ -1,5 +1,4 @@
 -- The entry's own promise, and its reply as numbers.
-use borrow.Author.Rules.{rules}
 use Rattle.capi.proofs.sulmedra_write.Goals as goal
 
 pub returns : goal.returns

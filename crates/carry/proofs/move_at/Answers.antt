@@ -3,7 +3,6 @@ use mathlib.Core.Path.{ap, sym, ◌∙◌, ◌≡◌}
 use Prim.Native.Nat.{◌*◌, ◌+◌, ◌-◌, ℕ}
 use native.Mathlib.Omega.{arith}
 use lib.ListN.{drop, take}
-use borrow.Author.Rules.{rules}
 use Rattle.circuit.specs.Limits.{move_cells}
 use Rattle.moves.proofs.Logs.{move_short, move_whole}
 use Rattle.carry.proofs.move_at.Goals as goal

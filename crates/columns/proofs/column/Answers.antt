@@ -1,7 +1,6 @@
 -- One look-up.
 use mathlib.Core.Path.{subst}
 use Prim.Native.Nat.{ℕ}
-use borrow.Author.Rules.{rules}
 use Rattle.columns.proofs.Wires.{column_is}
 use Rattle.columns.specs.Table.{ProductEntry}
 use Rattle.columns.proofs.column.Goals as goal

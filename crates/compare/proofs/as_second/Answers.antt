@@ -1,6 +1,5 @@
 -- By what the judge found.
 use mathlib.Core.Path.{refl}
-use borrow.Author.Rules.{rules}
 use Rattle.compare.proofs.as_second.Goals as goal
 
 pub returns-in-Refused : goal.returns-in-Refused

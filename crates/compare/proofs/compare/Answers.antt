@@ -1,5 +1,4 @@
 -- Each way out by its law.
-use borrow.Author.Rules.{rules}
 use Rattle.compare.proofs.CompareWays.{compare_differ, compare_refused, compare_same, may_compare}
 use Rattle.compare.proofs.compare.Goals as goal
 

@@ -1,6 +1,5 @@
 -- The first list refuses, or the second decides.
 use mathlib.Core.Path.{ap, ◌∙◌}
-use borrow.Author.Rules.{rules}
 use Rattle.compare.proofs.CompareWays.{first_refuses, second_decides}
 use Rattle.compare.specs.Entry.{as_second}
 use Rattle.compare.proofs.two_lists_reply.Goals as goal

@@ -1,6 +1,5 @@
 -- The counts, by the reply.
 use mathlib.Core.Path.{refl}
-use borrow.Author.Rules.{rules}
 use Rattle.creply.proofs.trimmed_in_c.Goals as goal
 
 pub returns-in-Done : goal.returns-in-Done

@@ -1,9 +1,6 @@
 -- The mask so far, as those of its slots are gone through from below that it names.
-use Prim.Native.Nat.{◌-◌}
 use native.Mathlib.Omega.{arith}
-use borrow.Author.Rules.{rules}
-use Rattle.circuit.specs.Limits.{product_bits}
-use Rattle.echelon.proofs.Slots.{MaskTo, mask_end, mask_start, mask_turn}
+use Rattle.echelon.proofs.Slots.{mask_end, mask_start, mask_turn}
 use Rattle.echelon.proofs.by_members.Goals as goal
 
 pub loop-s-init : goal.loop-s-init

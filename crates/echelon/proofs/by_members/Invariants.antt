@@ -1,9 +1,7 @@
 -- The mask so far, as those of its slots are gone through from below that it names.
 use Prim.Native.Nat.{◌-◌}
-use native.Mathlib.Omega.{arith}
-use borrow.Author.Rules.{rules}
 use Rattle.circuit.specs.Limits.{product_bits}
-use Rattle.echelon.proofs.Slots.{MaskTo, mask_end, mask_start, mask_turn}
+use Rattle.echelon.proofs.Slots.{MaskTo}
 use Rattle.echelon.proofs.by_members.Given as goal
 
 abbrev pub invariant-loop-s : goal.invariant-loop-s

@@ -1,12 +1,7 @@
 -- What is left of v is below 2 ^ productBits, and the slots taken off it make up the difference; what is left falls at each turn.
-use mathlib.Core.Path.{◌≡◌}
 use Prim.Native.Nat.{◌<◌, ◌^◌}
-use native.Mathlib.Omega.{arith}
-use borrow.Author.Rules.{rules}
 use Rattle.circuit.specs.Limits.{product_bits}
-use Rattle.gf2.proofs.Echelon.{reached_start}
 use Rattle.gf2.specs.Echelon.{Reached, held}
-use Rattle.echelon.proofs.Masks.{machine_takes, masked_falls, off, stopped}
 use Rattle.echelon.proofs.reduce.Given as goal
 
 abbrev pub invariant-loop-left : goal.invariant-loop-left

@@ -2,7 +2,6 @@
 use mathlib.Core.Logic.{inl, inr}
 use mathlib.Core.Path.{refl}
 use lib.Bits.{xor_lt}
-use borrow.Author.Rules.{rules}
 use Rattle.circuit.specs.Limits.{max_wires}
 use Rattle.kernel.proofs.Offering.{beside, down_found, down_passed}
 use Rattle.kernel.proofs.offer.Goals as goal

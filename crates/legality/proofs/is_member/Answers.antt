@@ -1,7 +1,6 @@
 -- One look at the mark of p, if it has one.
 use native.Mathlib.Omega.{arith}
 use lib.ListN.{get_or}
-use borrow.Author.Rules.{rules}
 use Rattle.legality.proofs.Conditions.{member_inside}
 use Rattle.gf2.proofs.Answers.{answer_no, decides_equal}
 use Rattle.legality.proofs.is_member.Goals as goal

@@ -1,5 +1,4 @@
 -- A member, and none of Y.
-use borrow.Author.Rules.{rules}
 use Rattle.gf2.proofs.Answers.{answer_no, decides_as, decides_not, denied, granted}
 use Rattle.legality.proofs.is_outside.Goals as goal
 

@@ -1,6 +1,5 @@
 -- The two constants are one bit for each copy.
 use mathlib.Core.Path.{refl}
-use borrow.Author.Rules.{rules}
 use Rattle.gf2.specs.Copies.{copies, pairs}
 use Rattle.gf2.specs.Sum.{sum}
 use Rattle.legality.proofs.pairs_of.Goals as goal

@@ -1,12 +1,8 @@
 -- For none of those passed is a xor z a member outside.
 use Prim.Native.Nat.{◌-◌, ◌≤◌}
-use native.Mathlib.Omega.{arith}
 use lib.Bits.{bit_xor}
 use lib.ListN.{length}
-use borrow.Author.Rules.{rules}
-use Rattle.gf2.proofs.Answers.{answer_no, answer_yes}
-use Rattle.legality.proofs.Conditions.{outside_padded}
-use Rattle.legality.proofs.Deciding.{Passed, passed_more, passed_none, separates_found, separates_none}
+use Rattle.legality.proofs.Deciding.{Passed}
 use Rattle.legality.specs.Tested.{Outside}
 use Rattle.legality.proofs.separates.Given as goal
 

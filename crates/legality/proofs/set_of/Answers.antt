@@ -3,7 +3,6 @@ use mathlib.Core.Path.{◌∙◌, ◌≡◌, ap}
 use Prim.Native.Nat.{◌+◌, ◌-◌, ℕ}
 use native.Mathlib.Omega.{arith}
 use lib.ListN.{drop, get_or, take}
-use borrow.Author.Rules.{rules}
 use Rattle.circuit.specs.Limits.{move_head}
 use Rattle.legality.proofs.set_of.Goals as goal
 

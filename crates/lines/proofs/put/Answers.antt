@@ -1,6 +1,5 @@
 -- The part of the output that is lent holds the bytes then.
 use mathlib.Core.Path.{refl}
-use borrow.Author.Rules.{rules}
 use Rattle.lines.proofs.Writing.{part_written}
 use Rattle.lines.proofs.put.Goals as goal
 

@@ -1,6 +1,5 @@
 -- Four numbers in a row.
 use native.Mathlib.Omega.{arith}
-use borrow.Author.Rules.{rules}
 use Rattle.lines.proofs.Writing.{writes_then}
 use Rattle.lines.proofs.put_counts.Goals as goal
 

@@ -1,6 +1,5 @@
 -- Three bytes, two digits each, then the newline.
 use native.Mathlib.Omega.{arith}
-use borrow.Author.Rules.{rules}
 use Rattle.lines.proofs.Writing.{writes_then}
 use Rattle.lines.proofs.put_gate.Goals as goal
 

@@ -1,11 +1,9 @@
 -- What is left of the lines, stored behind what has been, gives all of them.
 use mathlib.Core.Path.{◌≡◌}
 use Prim.Native.Nat.{◌-◌, ◌/◌, ◌≤◌}
-use native.Mathlib.Omega.{arith}
 use lib.ListN.{length}
-use borrow.Author.Rules.{rules}
 use Rattle.circuit.specs.Limits.{gate_bytes}
-use Rattle.lines.proofs.Writing.{PutTo, gate_put, gates_put, none_put}
+use Rattle.lines.proofs.Writing.{PutTo}
 use Rattle.lines.proofs.put_gates.Given as goal
 
 abbrev pub invariant-loop-i : goal.invariant-loop-i

@@ -1,6 +1,5 @@
 -- Twice two digits, then the byte after them.
 use native.Mathlib.Omega.{arith}
-use borrow.Author.Rules.{rules}
 use Rattle.lines.proofs.Writing.{writes_then}
 use Rattle.lines.proofs.put_number.Goals as goal
 

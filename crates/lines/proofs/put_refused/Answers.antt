@@ -1,6 +1,5 @@
 -- The fixed bytes, the number, a space and the place.
 use native.Mathlib.Omega.{arith}
-use borrow.Author.Rules.{rules}
 use Rattle.lines.proofs.Writing.{writes_then}
 use Rattle.lines.proofs.put_refused.Goals as goal
 

@@ -1,7 +1,6 @@
 -- Two stores.
 use native.Mathlib.Omega.{arith}
 use lib.ListN.{length-set}
-use borrow.Author.Rules.{rules}
 use Rattle.lines.proofs.Writing.{two_written}
 use Rattle.lines.proofs.put_two.Goals as goal
 

@@ -1,6 +1,5 @@
 -- The digits, then the newline.
 use native.Mathlib.Omega.{arith}
-use borrow.Author.Rules.{rules}
 use Rattle.lines.proofs.Writing.{writes_then}
 use Rattle.lines.proofs.put_wires.Goals as goal
 

@@ -1,5 +1,4 @@
 -- What was read, copied out.
-use borrow.Author.Rules.{rules}
 use Rattle.reader.proofs.ReadWays.{read_out, rows_fit, weights_fit}
 use Rattle.reader.proofs.put_reading.Goals as goal
 

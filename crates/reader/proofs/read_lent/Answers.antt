@@ -1,6 +1,5 @@
 -- The two lengths lent, one after the other.
 use mathlib.Core.Path.{ap₂, ◌∙◌}
-use borrow.Author.Rules.{rules}
 use Rattle.circuit.specs.Faults.{or_else}
 use Rattle.reader.proofs.read_lent.Goals as goal
 

@@ -1,6 +1,5 @@
 -- A refusal leaves the output as it was; where there is none, all that the writer takes is sound.
 use mathlib.Core.Logic.{◌≢◌}
-use borrow.Author.Rules.{rules}
 use Rattle.circuit.proofs.Judging.{after_refusal}
 use Rattle.circuit.proofs.TableRule.{call_done, call_refusal}
 use Rattle.rests.proofs.Ways.{new_fits}

@@ -1,5 +1,4 @@
 -- The fault of the weights and the output, then that of the marks.
-use borrow.Author.Rules.{rules}
 use Rattle.rests.proofs.new_weights_fault.Goals as goal
 
 pub returns : goal.returns

@@ -1,6 +1,5 @@
 -- Each way out of `write` by its law.
 use native.Mathlib.Omega.{arith}
-use borrow.Author.Rules.{rules}
 use Rattle.synth.proofs.WriteWays.{may_write, write_done, write_refused}
 use Rattle.synth.proofs.write.Goals as goal
 

@@ -1,5 +1,4 @@
 -- The phases, then the rows behind them.
-use borrow.Author.Rules.{rules}
 use Rattle.synth.proofs.WriteWays.{gates_stored, phases_ready, rows_ready}
 use Rattle.synth.proofs.write_sound.Goals as goal
 

@@ -1,5 +1,4 @@
 -- Each way out of `read_text` by its law.
-use borrow.Author.Rules.{rules}
 use Rattle.text.proofs.TextWays.{may_store, one_there, text_read, text_refused}
 use Rattle.text.proofs.read_text.Goals as goal
 

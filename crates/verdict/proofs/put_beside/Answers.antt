@@ -1,7 +1,6 @@
 -- The second text is a circuit, or faulty.
 use mathlib.Core.Path.{refl}
 use native.Mathlib.Omega.{arith}
-use borrow.Author.Rules.{rules}
 use Rattle.text.proofs.TextLaws.{circuit_left, circuit_said}
 use Rattle.verdict.proofs.VerdictWays.{second_read, second_refused}
 use Rattle.verdict.proofs.put_beside.Goals as goal

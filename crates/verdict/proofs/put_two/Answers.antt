@@ -1,7 +1,6 @@
 -- What `compare` replies, as a line.
 use mathlib.Core.Path.{refl}
 use native.Mathlib.Omega.{arith}
-use borrow.Author.Rules.{rules}
 use Rattle.compare.specs.declared.Compared.TheVariants.{Differ, Refused, Same}
 use Rattle.verdict.proofs.VerdictWays.{same_wires}
 use Rattle.verdict.specs.Verdicts.{other_wires}

@@ -1,6 +1,5 @@
 -- A refusal leaves the lists as they were; where there is none, they are as long as they must be, and are written.
 use mathlib.Core.Logic.{◌≢◌}
-use borrow.Author.Rules.{rules}
 use Rattle.circuit.proofs.Judging.{after_refusal}
 use Rattle.circuit.proofs.TableRule.{call_done, call_refusal}
 use Rattle.weights.proofs.Ways.{lists_fit}

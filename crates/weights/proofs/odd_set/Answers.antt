@@ -1,6 +1,5 @@
 -- A refusal leaves the marks as they were; where there is none, they are as long as the weights, and become the odd set.
 use mathlib.Core.Logic.{◌≢◌}
-use borrow.Author.Rules.{rules}
 use Rattle.circuit.proofs.Judging.{after_refusal}
 use Rattle.circuit.proofs.TableRule.{call_done, call_refusal}
 use Rattle.weights.proofs.Ways.{odd_fits}

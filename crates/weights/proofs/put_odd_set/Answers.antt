@@ -1,12 +1,12 @@
 -- The marks are filled from the front.
-use mathlib.Core.Path.{sym, ◌≡◌}
-use Prim.Native.Nat.{◌%◌, ◌-◌, ◌≤◌}
+use mathlib.Core.Path.{sym}
+use Prim.Native.Nat.{◌%◌}
 use native.Mathlib.Omega.{arith}
-use lib.ListN.{get_or, length, length-set}
+use lib.ListN.{get_or, length-set}
 use borrow.Author.Rules.{rules}
 use Rattle.circuit.proofs.OddSet.{length-odd, odd_mark}
 use Rattle.circuit.specs.OddSet.{odd_set}
-use Rattle.gf2.proofs.Table.{Filled, filled_all, filled_next, filled_none}
+use Rattle.gf2.proofs.Table.{filled_all, filled_next, filled_none}
 use Rattle.weights.proofs.put_odd_set.Goals as goal
 
 pub loop-p-init : goal.loop-p-init

@@ -1,12 +1,9 @@
 -- The marks are filled from the front.
-use mathlib.Core.Path.{sym, ◌≡◌}
-use Prim.Native.Nat.{◌%◌, ◌-◌, ◌≤◌}
-use native.Mathlib.Omega.{arith}
-use lib.ListN.{get_or, length, length-set}
-use borrow.Author.Rules.{rules}
-use Rattle.circuit.proofs.OddSet.{length-odd, odd_mark}
+use mathlib.Core.Path.{◌≡◌}
+use Prim.Native.Nat.{◌-◌, ◌≤◌}
+use lib.ListN.{length}
 use Rattle.circuit.specs.OddSet.{odd_set}
-use Rattle.gf2.proofs.Table.{Filled, filled_all, filled_next, filled_none}
+use Rattle.gf2.proofs.Table.{Filled}
 use Rattle.weights.proofs.put_odd_set.Given as goal
 
 abbrev pub invariant-loop-p : goal.invariant-loop-p

@@ -1,6 +1,5 @@
 -- The pairs, z for an odd set, and mark 0.
-use mathlib.Core.Path.{◌∙◌, refl}
-use borrow.Author.Rules.{rules}
+use mathlib.Core.Path.{refl}
 use Rattle.carry.proofs.Carrying.{carried, may_clear, may_flip_z}
 use Rattle.carry.proofs.flips.carry.Goals as goal
 

@@ -1,6 +1,5 @@
 -- The mark of z, for an odd number alone.
 use native.Mathlib.Omega.{arith}
-use borrow.Author.Rules.{rules}
 use Rattle.carry.proofs.Carrying.{even_kept, odd_flipped}
 use Rattle.carry.proofs.flips.flip_if_odd.Goals as goal
 

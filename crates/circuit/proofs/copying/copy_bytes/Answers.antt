@@ -1,10 +1,9 @@
 -- The target is filled from the front.
-use mathlib.Core.Path.{refl, ◌≡◌}
-use Prim.Native.Nat.{◌-◌, ◌≤◌}
+use mathlib.Core.Path.{refl}
 use native.Mathlib.Omega.{arith}
-use lib.ListN.{get_or, length, length-set}
+use lib.ListN.{get_or, length-set}
 use borrow.Author.Rules.{rules}
-use Rattle.gf2.proofs.Table.{Filled, filled_all, filled_next, filled_none}
+use Rattle.gf2.proofs.Table.{filled_all, filled_next, filled_none}
 use Rattle.circuit.proofs.copying.copy_bytes.Goals as goal
 
 pub loop-j-init : goal.loop-j-init

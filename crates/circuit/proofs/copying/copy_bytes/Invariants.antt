@@ -1,10 +1,8 @@
 -- The target is filled from the front.
-use mathlib.Core.Path.{refl, ◌≡◌}
+use mathlib.Core.Path.{◌≡◌}
 use Prim.Native.Nat.{◌-◌, ◌≤◌}
-use native.Mathlib.Omega.{arith}
-use lib.ListN.{get_or, length, length-set}
-use borrow.Author.Rules.{rules}
-use Rattle.gf2.proofs.Table.{Filled, filled_all, filled_next, filled_none}
+use lib.ListN.{length}
+use Rattle.gf2.proofs.Table.{Filled}
 use Rattle.circuit.proofs.copying.copy_bytes.Given as goal
 
 abbrev pub invariant-loop-j : goal.invariant-loop-j

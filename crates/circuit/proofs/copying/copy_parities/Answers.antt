@@ -1,6 +1,5 @@
 -- As many as there are.
 use mathlib.Core.Path.{◌∙◌}
-use borrow.Author.Rules.{rules}
 use Rattle.circuit.proofs.Placing.{placed_all}
 use Rattle.circuit.proofs.copying.copy_parities.Goals as goal
 

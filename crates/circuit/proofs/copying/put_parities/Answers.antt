@@ -1,10 +1,10 @@
 -- The cells are pasted one by one.
 use mathlib.Core.List.{List}
-use mathlib.Core.Path.{◌≡◌, ap, ◌∙◌}
-use Prim.Native.Nat.{◌+◌, ◌-◌, ◌≤◌, ℕ}
+use mathlib.Core.Path.{ap, ◌∙◌}
+use Prim.Native.Nat.{◌+◌, ℕ}
 use native.Mathlib.Omega.{arith}
-use lib.ListN.{length, set}
-use lib.Seq.{paste, paste-zero}
+use lib.ListN.{set}
+use lib.Seq.{paste-zero}
 use borrow.Author.Rules.{rules}
 use Rattle.circuit.proofs.Filling.{put_long}
 use Rattle.circuit.proofs.Placing.{paste_more, paste_placed}

@@ -1,13 +1,8 @@
 -- The cells are pasted one by one.
-use mathlib.Core.List.{List}
-use mathlib.Core.Path.{◌≡◌, ap, ◌∙◌}
-use Prim.Native.Nat.{◌+◌, ◌-◌, ◌≤◌, ℕ}
-use native.Mathlib.Omega.{arith}
-use lib.ListN.{length, set}
-use lib.Seq.{paste, paste-zero}
-use borrow.Author.Rules.{rules}
-use Rattle.circuit.proofs.Filling.{put_long}
-use Rattle.circuit.proofs.Placing.{paste_more, paste_placed}
+use mathlib.Core.Path.{◌≡◌}
+use Prim.Native.Nat.{◌-◌, ◌≤◌}
+use lib.ListN.{length}
+use lib.Seq.{paste}
 use Rattle.circuit.proofs.copying.put_parities.Given as goal
 
 abbrev pub invariant-loop-j : goal.invariant-loop-j

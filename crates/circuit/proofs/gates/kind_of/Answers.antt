@@ -1,7 +1,6 @@
 -- The kind byte, by the match.
 use mathlib.Core.Path.{sym, ◌≡◌}
 use native.Mathlib.Omega.{arith}
-use borrow.Author.Rules.{rules}
 use Rattle.circuit.proofs.GateKinds.{kind_above}
 use Rattle.circuit.specs.Gate.{CNOT, kind_of}
 use Rattle.circuit.proofs.gates.kind_of.Goals as goal

@@ -1,6 +1,5 @@
 -- The half as it was, or eliminated anew.
 use mathlib.Core.Path.{◌∙◌, sym}
-use borrow.Author.Rules.{rules}
 use Rattle.columns.proofs.halves.half_at.Goals as goal
 
 pub returns-then-z-unit : goal.returns-then-z-unit

@@ -1,14 +1,11 @@
 -- The columns of the members without wire t among those passed are in the slots, whatever z and the tags.
 use mathlib.Core.Path.{◌≡◌}
-use Prim.Native.Nat.{◌-◌, ◌≤◌}
 use native.Mathlib.Omega.{arith}
 use lib.ListN.{length}
 use borrow.Author.Rules.{rules}
 use Rattle.echelon.proofs.Masks.{masked_long, masked_none}
-use Rattle.echelon.specs.Slots.{Masked}
-use Rattle.gf2.specs.Echelon.{held}
 use Rattle.gf2.proofs.Answers.{never}
-use Rattle.columns.proofs.Apart.{HalfTo, half_all, half_more, half_none, half_skip}
+use Rattle.columns.proofs.Apart.{half_all, half_more, half_none, half_skip}
 use Rattle.columns.proofs.halves.half_of.Goals as goal
 
 pub returns-then-ys-most : goal.returns-then-ys-most

@@ -1,7 +1,6 @@
 -- No turn is asked where z is no xor of two members or all columns are apart; else all are.
 use mathlib.Core.Path.{refl}
 use native.Mathlib.Omega.{arith}
-use borrow.Author.Rules.{rules}
 use Rattle.columns.proofs.Apart.{ask_all, ask_none, legal_pair}
 use Rattle.columns.proofs.halves.to_ask.Goals as goal
 

@@ -1,5 +1,4 @@
 -- The entry that the table has for p.
-use borrow.Author.Rules.{rules}
 use Rattle.columns.proofs.table.product.Goals as goal
 
 pub returns : goal.returns

@@ -1,6 +1,5 @@
 -- Each way out by its law.
 use native.Mathlib.Omega.{arith}
-use borrow.Author.Rules.{rules}
 use Rattle.columns.proofs.InTurn.{partner_below, turn_alone, turn_had, turn_of_pair, turn_of_single, turn_with_wire}
 use Rattle.columns.proofs.turns.turn.Goals as goal
 

@@ -1,5 +1,4 @@
 -- Both lists are read, and what they say decides.
-use borrow.Author.Rules.{rules}
 use Rattle.compare.proofs.CompareWays.{alike_by_reading, read_is_sound}
 use Rattle.compare.proofs.deciding.act_alike.Goals as goal
 

@@ -3,7 +3,6 @@ use mathlib.Core.Logic.{◌≢◌}
 use mathlib.Core.Path.{refl, ◌≡◌}
 use Prim.Native.Nat.{suc, zero, ℕ}
 use native.Mathlib.Omega.{arith}
-use borrow.Author.Rules.{rules}
 use Rattle.compare.specs.Deciding.{modulus}
 use Rattle.compare.proofs.deciding.modulus.Goals as goal
 

@@ -1,7 +1,6 @@
 -- The parities of n wires are lent.
 use mathlib.Core.Path.{sym}
 use native.Mathlib.Omega.{arith}
-use borrow.Author.Rules.{rules}
 use Rattle.sums.proofs.Lending.{counted, front_fits, front_long}
 use Rattle.compare.proofs.deciding.same_coefficients.Goals as goal
 

@@ -1,10 +1,8 @@
 -- The rows passed are the same.
-use Prim.Native.Nat.{◌-◌, ◌≤◌}
 use native.Mathlib.Omega.{arith}
-use lib.ListN.{length}
 use borrow.Author.Rules.{rules}
 use Rattle.gf2.proofs.Answers.{answer_no, answer_yes}
-use Rattle.compare.proofs.Turns.{SameTo, row_differs, same_all, same_next, same_start}
+use Rattle.compare.proofs.Turns.{row_differs, same_all, same_next, same_start}
 use Rattle.compare.proofs.deciding.same_rows.Goals as goal
 
 pub loop-i-init : goal.loop-i-init

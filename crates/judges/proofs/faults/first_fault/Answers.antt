@@ -1,14 +1,9 @@
 -- No gate before gate i has a fault: the first fault of the rest is that of the list.
-use mathlib.Core.Path.{◌∙◌, ◌≡◌, ap}
-use Prim.Native.Nat.{◌-◌, ◌/◌, ◌≤◌}
+use mathlib.Core.Path.{◌∙◌, ap}
 use native.Mathlib.Omega.{arith}
-use lib.ListN.{length}
 use borrow.Author.Rules.{rules}
-use Rattle.circuit.proofs.Bytes.{gates_from}
 use Rattle.circuit.proofs.Steps.{fault_here, fault_later, no_fault}
-use Rattle.circuit.specs.Faults.{first_fault, gate_fault}
-use Rattle.circuit.specs.Gate.{gates_of}
-use Rattle.circuit.specs.Limits.{gate_bytes}
+use Rattle.circuit.specs.Faults.{gate_fault}
 use Rattle.judges.proofs.faults.first_fault.Goals as goal
 
 pub returns-then-fault-ne0 : goal.returns-then-fault-ne0

@@ -1,12 +1,9 @@
 -- No gate before gate i has a fault: the first fault of the rest is that of the list.
-use mathlib.Core.Path.{◌∙◌, ◌≡◌, ap}
+use mathlib.Core.Path.{◌≡◌}
 use Prim.Native.Nat.{◌-◌, ◌/◌, ◌≤◌}
-use native.Mathlib.Omega.{arith}
 use lib.ListN.{length}
-use borrow.Author.Rules.{rules}
 use Rattle.circuit.proofs.Bytes.{gates_from}
-use Rattle.circuit.proofs.Steps.{fault_here, fault_later, no_fault}
-use Rattle.circuit.specs.Faults.{first_fault, gate_fault}
+use Rattle.circuit.specs.Faults.{first_fault}
 use Rattle.circuit.specs.Gate.{gates_of}
 use Rattle.circuit.specs.Limits.{gate_bytes}
 use Rattle.judges.proofs.faults.first_fault.Given as goal

@@ -1,6 +1,5 @@
 -- Faults 3, 4 and 5 of a gate, by its kind.
 use mathlib.Core.Path.{refl, sym, ◌∙◌}
-use borrow.Author.Rules.{rules}
 use Rattle.circuit.proofs.Judging.{by_kind}
 use Rattle.circuit.specs.Faults.{gate_kind}
 use Rattle.circuit.specs.declared.gates.Kind.TheVariants.{Cnot, Phase, Unknown}

@@ -1,6 +1,5 @@
 -- The first of two faults.
 use native.Mathlib.Omega.{arith}
-use borrow.Author.Rules.{rules}
 use Rattle.circuit.proofs.Judging.{or_first}
 use Rattle.judges.proofs.faults.or_else.Goals as goal
 

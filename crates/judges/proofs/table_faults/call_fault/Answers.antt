@@ -1,6 +1,5 @@
 -- Faults 1, 8 and 6, one after the other.
 use mathlib.Core.Path.{ap₂, ◌∙◌}
-use borrow.Author.Rules.{rules}
 use Rattle.circuit.specs.Faults.{or_else}
 use Rattle.judges.proofs.table_faults.call_fault.Goals as goal
 

@@ -1,11 +1,8 @@
 -- The largest of the bytes passed.
 use mathlib.Core.Path.{refl}
-use Prim.Native.Nat.{◌-◌, ◌≤◌}
 use native.Mathlib.Omega.{arith}
-use lib.ListN.{length}
 use borrow.Author.Rules.{rules}
 use Rattle.judges.proofs.LargestBytes.{largest_all, largest_next, largest_none}
-use Rattle.judges.specs.Largest.{Largest}
 use Rattle.judges.proofs.table_faults.largest.Goals as goal
 
 pub loop-p-init : goal.loop-p-init

@@ -1,10 +1,6 @@
 -- The largest of the bytes passed.
-use mathlib.Core.Path.{refl}
 use Prim.Native.Nat.{◌-◌, ◌≤◌}
-use native.Mathlib.Omega.{arith}
 use lib.ListN.{length}
-use borrow.Author.Rules.{rules}
-use Rattle.judges.proofs.LargestBytes.{largest_all, largest_next, largest_none}
 use Rattle.judges.specs.Largest.{Largest}
 use Rattle.judges.proofs.table_faults.largest.Given as goal
 

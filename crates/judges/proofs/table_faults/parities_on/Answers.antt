@@ -1,7 +1,6 @@
 -- As many as a table has, or 2^n.
 use native.Mathlib.Omega.{arith}
 use lib.Pow.{pow_mono}
-use borrow.Author.Rules.{rules}
 use Rattle.circuit.proofs.Steps.{shifted}
 use Rattle.circuit.specs.Limits.{max_wires}
 use Rattle.judges.proofs.table_faults.parities_on.Goals as goal

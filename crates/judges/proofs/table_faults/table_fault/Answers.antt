@@ -1,6 +1,5 @@
 -- Each test by its law.
 use native.Mathlib.Omega.{arith}
-use borrow.Author.Rules.{rules}
 use Rattle.circuit.proofs.TableRule.{other_length}
 use Rattle.circuit.specs.Limits.{parities}
 use Rattle.judges.proofs.LargestBytes.{beyond_wires, first_not_zero, largest_all, no_fault, too_large}

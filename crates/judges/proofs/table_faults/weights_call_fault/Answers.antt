@@ -1,6 +1,5 @@
 -- The table's fault, as part of the call's.
 use mathlib.Core.Path.{ap, ◌∙◌}
-use borrow.Author.Rules.{rules}
 use Rattle.circuit.specs.TableFaults.{call_fault}
 use Rattle.judges.proofs.table_faults.weights_call_fault.Goals as goal
 

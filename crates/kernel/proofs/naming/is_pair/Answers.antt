@@ -2,7 +2,6 @@
 use mathlib.Core.Path.{◌∙◌, sym}
 use native.Mathlib.Omega.{arith}
 use lib.Bits.{xor_lt}
-use borrow.Author.Rules.{rules}
 use Rattle.circuit.specs.Limits.{max_wires}
 use Rattle.gf2.proofs.Answers.{answer_no, decides_as, decides_equal}
 use Rattle.kernel.proofs.naming.is_pair.Goals as goal

@@ -1,5 +1,4 @@
 -- The mark at the place of p.
-use borrow.Author.Rules.{rules}
 use Rattle.moves.proofs.marks.mark_at.Goals as goal
 
 pub returns : goal.returns

@@ -4,7 +4,6 @@ use Prim.Native.Nat.{◌^◌, ◌≤◌}
 use native.Mathlib.Nat.{lt_of_lt_of_le}
 use native.Mathlib.Omega.{arith}
 use lib.Pow.{pow_mono}
-use borrow.Author.Rules.{rules}
 use Rattle.circuit.specs.Limits.{max_wires}
 use Rattle.gf2.proofs.Selection.{scale_lt}
 use Rattle.gf2.specs.Bit.{bit}

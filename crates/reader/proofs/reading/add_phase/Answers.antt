@@ -1,6 +1,5 @@
 -- A weight and a phase below 8 fit a byte together.
 use native.Mathlib.Omega.{arith}
-use borrow.Author.Rules.{rules}
 use Rattle.reader.proofs.reading.add_phase.Goals as goal
 
 pub overflow_add-weights : goal.overflow_add-weights

@@ -1,6 +1,5 @@
 -- Row i at the start.
 use native.Mathlib.Omega.{arith}
-use borrow.Author.Rules.{rules}
 use borrow.Author.Tests.{le-ltb, lt-ltb}
 use Rattle.reader.proofs.reading.first_row.Goals as goal
 

@@ -1,10 +1,9 @@
 -- The rows are filled from the front with their first parities.
-use mathlib.Core.Path.{◌∙◌, ◌≡◌}
-use Prim.Native.Nat.{◌-◌, ◌≤◌}
+use mathlib.Core.Path.{◌∙◌}
 use native.Mathlib.Omega.{arith}
-use lib.ListN.{length, replicate}
+use lib.ListN.{replicate}
 use borrow.Author.Rules.{rules}
-use Rattle.gf2.proofs.Table.{Filled, filled_all, filled_none}
+use Rattle.gf2.proofs.Table.{filled_all, filled_none}
 use Rattle.circuit.proofs.Filling.{put_filled, put_long}
 use Rattle.circuit.proofs.Sound.{length-first}
 use Rattle.reader.proofs.Turns.{first_entry}

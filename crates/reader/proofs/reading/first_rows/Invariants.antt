@@ -1,13 +1,8 @@
 -- The rows are filled from the front with their first parities.
-use mathlib.Core.Path.{◌∙◌, ◌≡◌}
+use mathlib.Core.Path.{◌≡◌}
 use Prim.Native.Nat.{◌-◌, ◌≤◌}
-use native.Mathlib.Omega.{arith}
-use lib.ListN.{length, replicate}
-use borrow.Author.Rules.{rules}
-use Rattle.gf2.proofs.Table.{Filled, filled_all, filled_none}
-use Rattle.circuit.proofs.Filling.{put_filled, put_long}
-use Rattle.circuit.proofs.Sound.{length-first}
-use Rattle.reader.proofs.Turns.{first_entry}
+use lib.ListN.{length}
+use Rattle.gf2.proofs.Table.{Filled}
 use Rattle.circuit.specs.Limits.{max_wires}
 use Rattle.circuit.specs.Read.{first_rows}
 use Rattle.reader.proofs.reading.first_rows.Given as goal

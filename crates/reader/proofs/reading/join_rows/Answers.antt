@@ -1,5 +1,4 @@
 -- The target's row, by the two cells and the store.
-use borrow.Author.Rules.{rules}
 use Rattle.reader.proofs.Turns.{rows_joined}
 use Rattle.reader.proofs.reading.join_rows.Goals as goal
 

@@ -1,6 +1,5 @@
 -- l of the difference, and the rests of the pairs.
 use native.Mathlib.Omega.{arith}
-use borrow.Author.Rules.{rules}
 use Rattle.rests.proofs.weighing.one_rest.Goals as goal
 
 pub bounds-s-p : goal.bounds-s-p

@@ -1,6 +1,5 @@
 -- Three times minus the sum, modulo 4.
 use native.Mathlib.Omega.{arith}
-use borrow.Author.Rules.{rules}
 use Rattle.rests.proofs.weighing.pair_rest.Goals as goal
 
 pub returns : goal.returns

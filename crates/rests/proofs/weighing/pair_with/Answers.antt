@@ -1,6 +1,5 @@
 -- Another wire, or the same.
 use native.Mathlib.Omega.{arith}
-use borrow.Author.Rules.{rules}
 use Rattle.rests.proofs.RestSteps.{other_wire, same_wire}
 use Rattle.rests.proofs.weighing.pair_with.Goals as goal
 

@@ -1,10 +1,7 @@
 -- No row before row i is beyond n: the fault of the rest is that of all.
-use mathlib.Core.Path.{◌∙◌, ◌≡◌}
+use mathlib.Core.Path.{◌≡◌}
 use Prim.Native.Nat.{◌-◌, ◌≤◌}
-use native.Mathlib.Omega.{arith}
 use lib.ListN.{drop, length}
-use borrow.Author.Rules.{rules}
-use Rattle.written.proofs.RowRule.{row_bad, row_end, row_good}
 use Rattle.written.specs.Faults.{beyond_fault}
 use Rattle.synth.proofs.faults.beyond_fault.Given as goal
 

@@ -2,7 +2,6 @@
 use mathlib.Core.Path.{◌∙◌, ◌≡◌, ap, sym}
 use Prim.Native.Nat.{◌-◌, ◌^◌}
 use native.Mathlib.Omega.{arith}
-use borrow.Author.Rules.{rules}
 use Rattle.circuit.specs.Limits.{row_cells}
 use Rattle.written.proofs.RowRule.{other_length, rows_beyond, rows_cancel, shaped}
 use Rattle.written.specs.Faults.{Shaped, cancel_fault}

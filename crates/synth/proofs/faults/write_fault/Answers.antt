@@ -1,7 +1,6 @@
 -- 1, 8 and 6, then 7.
 use mathlib.Core.Path.{◌∙◌}
 use native.Mathlib.Omega.{arith}
-use borrow.Author.Rules.{rules}
 use Rattle.written.proofs.Checks.{call_refuses, rows_decide, wires_few}
 use Rattle.synth.proofs.faults.write_fault.Goals as goal
 

@@ -1,6 +1,5 @@
 -- By the bit of wire r.
 use native.Mathlib.Omega.{arith}
-use borrow.Author.Rules.{rules}
 use Rattle.synth.proofs.RowTurns.{lack_none, lack_wire}
 use Rattle.synth.proofs.masks.lack_of.Goals as goal
 

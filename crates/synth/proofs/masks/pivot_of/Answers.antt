@@ -1,10 +1,8 @@
 -- No wire from r to b is named: the pivot from b on is the pivot from r on.
-use mathlib.Core.Path.{◌∙◌, ◌≡◌}
-use Prim.Native.Nat.{◌-◌, ◌≤◌}
+use mathlib.Core.Path.{◌∙◌}
 use native.Mathlib.Omega.{arith}
 use borrow.Author.Rules.{rules}
 use Rattle.synth.proofs.RowTurns.{pivot_end, pivot_here, pivot_later}
-use Rattle.written.specs.Writing.{pivot, pivot_from}
 use Rattle.synth.proofs.masks.pivot_of.Goals as goal
 
 pub returns-then-m-b-eq1 : goal.returns-then-m-b-eq1

@@ -1,9 +1,6 @@
 -- The masks are recounted from the front, where they lie.
-use Prim.Native.Nat.{◌-◌}
 use native.Mathlib.Omega.{arith}
-use borrow.Author.Rules.{rules}
-use Rattle.circuit.specs.Limits.{max_wires}
-use Rattle.synth.proofs.RowTurns.{Recounted, recount_first, recount_last, recount_next}
+use Rattle.synth.proofs.RowTurns.{recount_first, recount_last, recount_next}
 use Rattle.synth.proofs.masks.recount_masks.Goals as goal
 
 pub loop-i-init : goal.loop-i-init

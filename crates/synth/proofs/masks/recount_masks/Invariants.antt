@@ -1,9 +1,7 @@
 -- The masks are recounted from the front, where they lie.
 use Prim.Native.Nat.{◌-◌}
-use native.Mathlib.Omega.{arith}
-use borrow.Author.Rules.{rules}
 use Rattle.circuit.specs.Limits.{max_wires}
-use Rattle.synth.proofs.RowTurns.{Recounted, recount_first, recount_last, recount_next}
+use Rattle.synth.proofs.RowTurns.{Recounted}
 use Rattle.synth.proofs.masks.recount_masks.Given as goal
 
 abbrev pub invariant-loop-i : goal.invariant-loop-i

@@ -1,5 +1,4 @@
 -- The mask of the row gets its wire, then loses the others.
-use borrow.Author.Rules.{rules}
 use Rattle.synth.proofs.RowTurns.{stepped}
 use Rattle.synth.proofs.masks.row_step.Goals as goal
 

@@ -1,7 +1,6 @@
 -- CNOTs into the lowest wire, the spelling, the same CNOTs.
 use mathlib.Core.Logic.{◌≢◌}
 use native.Mathlib.Omega.{arith}
-use borrow.Author.Rules.{rules}
 use Rattle.synth.proofs.PhaseTurns.{parity-none, parity-room, parity-stored, spell_room, undo_room}
 use Rattle.synth.proofs.phases.write_parity.Goals as goal
 

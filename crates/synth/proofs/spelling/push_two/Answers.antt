@@ -1,5 +1,4 @@
 -- One gate after the other.
-use borrow.Author.Rules.{rules}
 use Rattle.synth.proofs.Stores.{stored_then}
 use Rattle.synth.proofs.spelling.push_two.Goals as goal
 

@@ -1,7 +1,6 @@
 -- Three bytes, one after the other.
 use native.Mathlib.Omega.{arith}
 use lib.ListN.{length-set}
-use borrow.Author.Rules.{rules}
 use Rattle.synth.proofs.Stores.{stored_one}
 use Rattle.synth.proofs.storing.push.Goals as goal
 

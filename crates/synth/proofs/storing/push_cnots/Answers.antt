@@ -1,8 +1,6 @@
 -- The CNOTs from the wires passed are stored, and i is the next wire that q names.
-use Prim.Native.Nat.{◌-◌}
 use native.Mathlib.Omega.{arith}
-use borrow.Author.Rules.{rules}
-use Rattle.synth.proofs.PhaseTurns.{CnotsTo, cnots_end, cnots_first, cnots_room, cnots_turn}
+use Rattle.synth.proofs.PhaseTurns.{cnots_end, cnots_first, cnots_room, cnots_turn}
 use Rattle.synth.proofs.Stores.{stored_same}
 use Rattle.synth.proofs.storing.push_cnots.Goals as goal
 

@@ -1,7 +1,6 @@
 -- The digit by its size.
 use Prim.Native.Nat.{◌%◌}
 use native.Mathlib.Omega.{arith}
-use borrow.Author.Rules.{rules}
 use Rattle.text.proofs.HexDigits.{high_digit, low_digit}
 use Rattle.text.proofs.hex.last_digit.Goals as goal
 

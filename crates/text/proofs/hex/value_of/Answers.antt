@@ -1,7 +1,6 @@
 -- The byte by its range.
 use mathlib.Core.Path.{sym}
 use native.Mathlib.Omega.{arith}
-use borrow.Author.Rules.{rules}
 use Rattle.text.proofs.HexDigits.{above, below, between, decimal, letter}
 use Rattle.text.proofs.hex.value_of.Goals as goal
 

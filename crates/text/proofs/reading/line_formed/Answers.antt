@@ -1,9 +1,7 @@
 -- The digits passed are digits: the line has the form if the rest of it has.
 use mathlib.Core.Path.{◌∙◌, sym}
-use Prim.Native.Nat.{◌-◌}
 use native.Mathlib.Omega.{arith}
-use borrow.Author.Rules.{rules}
-use Rattle.text.proofs.LineForms.{DigitsTo, digit_right, digit_wrong, digits_end, digits_none, too_short}
+use Rattle.text.proofs.LineForms.{digit_right, digit_wrong, digits_end, digits_none, too_short}
 use Rattle.text.proofs.reading.line_formed.Goals as goal
 
 pub returns-then-text-at : goal.returns-then-text-at

@@ -1,10 +1,6 @@
 -- The digits passed are digits: the line has the form if the rest of it has.
-use mathlib.Core.Path.{◌∙◌, sym}
 use Prim.Native.Nat.{◌-◌}
-use native.Mathlib.Omega.{arith}
-use borrow.Author.Rules.{rules}
-use borrow.Author.Tests.{not-false, not-true}
-use Rattle.text.proofs.LineForms.{DigitsTo, digit_right, digit_wrong, digits_end, digits_none, too_short}
+use Rattle.text.proofs.LineForms.{DigitsTo}
 use Rattle.text.proofs.reading.line_formed.Given as goal
 
 abbrev pub invariant-loop-j : goal.invariant-loop-j

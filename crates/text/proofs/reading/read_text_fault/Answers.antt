@@ -2,7 +2,6 @@
 use mathlib.Core.Path.{◌∙◌, ◌≡◌, ap, sym}
 use Prim.Native.Nat.{ℕ}
 use native.Mathlib.Omega.{arith}
-use borrow.Author.Rules.{rules}
 use Rattle.circuit.proofs.Judging.{refused}
 use Rattle.circuit.specs.Faults.{refuse}
 use Rattle.text.specs.Lines.{lines_of}

@@ -1,7 +1,6 @@
 -- Three bytes in a row.
 use native.Mathlib.Omega.{arith}
 use lib.ListN.{length-set}
-use borrow.Author.Rules.{rules}
 use Rattle.circuit.proofs.Placing.{three_stored}
 use Rattle.text.proofs.reading.store_gate.Goals as goal
 

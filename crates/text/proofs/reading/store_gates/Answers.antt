@@ -1,9 +1,6 @@
 -- What is left of the lines, stored behind what has been, gives all of it.
-use Prim.Native.Nat.{◌-◌}
 use native.Mathlib.Omega.{arith}
-use lib.ListN.{length}
-use borrow.Author.Rules.{rules}
-use Rattle.text.proofs.Storing.{StoredTo, all_stored, gate_fits, gate_stored, gate_there, none_stored}
+use Rattle.text.proofs.Storing.{all_stored, gate_fits, gate_stored, gate_there, none_stored}
 use Rattle.text.proofs.reading.store_gates.Goals as goal
 
 pub loop-at-init : goal.loop-at-init

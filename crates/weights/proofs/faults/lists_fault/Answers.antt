@@ -1,6 +1,5 @@
 -- The lengths of the three lists, one after the other.
 use mathlib.Core.Path.{ap₂, ◌∙◌}
-use borrow.Author.Rules.{rules}
 use Rattle.circuit.specs.Faults.{or_else}
 use Rattle.weights.proofs.faults.lists_fault.Goals as goal
 

@@ -1,7 +1,6 @@
 -- The marks' fault, as part of the call's.
 use mathlib.Core.Path.{ap, ◌∙◌}
 use Prim.Native.Nat.{ℕ}
-use borrow.Author.Rules.{rules}
 use Rattle.circuit.specs.TableFaults.{call_fault, weights_fault}
 use Rattle.weights.proofs.faults.odd_set_fault.Goals as goal
 

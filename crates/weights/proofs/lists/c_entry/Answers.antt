@@ -1,6 +1,5 @@
 -- Three wires in order below n, or none.
 use native.Mathlib.Omega.{arith}
-use borrow.Author.Rules.{rules}
 use borrow.Author.Tests.{le-ltb, lt-ltb}
 use Rattle.weights.proofs.lists.c_entry.Goals as goal
 

@@ -1,6 +1,5 @@
 -- By the number of wires.
 use native.Mathlib.Omega.{arith}
-use borrow.Author.Rules.{rules}
 use Rattle.weights.proofs.lists.entry_at.Goals as goal
 
 pub l_entry-requires : goal.l_entry-requires

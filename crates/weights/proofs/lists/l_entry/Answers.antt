@@ -1,6 +1,5 @@
 -- A wire below n, or beyond.
 use native.Mathlib.Omega.{arith}
-use borrow.Author.Rules.{rules}
 use borrow.Author.Tests.{le-ltb, lt-ltb}
 use Rattle.weights.proofs.lists.l_entry.Goals as goal
 

@@ -1,6 +1,5 @@
 -- Two wires in order below n, or none.
 use native.Mathlib.Omega.{arith}
-use borrow.Author.Rules.{rules}
 use borrow.Author.Tests.{le-ltb, lt-ltb}
 use Rattle.weights.proofs.lists.q_entry.Goals as goal
 

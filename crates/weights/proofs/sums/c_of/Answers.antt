@@ -1,7 +1,6 @@
 -- The sum with three wires, modulo 2.
 use mathlib.Core.Path.{◌∙◌}
 use native.Mathlib.Omega.{arith}
-use borrow.Author.Rules.{rules}
 use Rattle.weights.proofs.OneSum.{c_by_sum}
 use Rattle.weights.proofs.Signed.{rem_byte, rem_value, small_quot}
 use Rattle.weights.proofs.sums.c_of.Goals as goal

@@ -1,7 +1,6 @@
 -- The sum with one wire, modulo 8.
 use mathlib.Core.Path.{◌∙◌}
 use native.Mathlib.Omega.{arith}
-use borrow.Author.Rules.{rules}
 use Rattle.weights.proofs.OneSum.{l_by_sum}
 use Rattle.weights.proofs.Signed.{rem_byte, rem_value, small_quot}
 use Rattle.weights.proofs.sums.l_of.Goals as goal

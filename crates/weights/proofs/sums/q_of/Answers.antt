@@ -2,7 +2,6 @@
 use mathlib.Core.Path.{◌∙◌}
 use native.Mathlib.Omega.{arith}
 use lib.IntN.{pos}
-use borrow.Author.Rules.{rules}
 use Rattle.weights.proofs.OneSum.{q_by_sum}
 use Rattle.weights.proofs.Signed.{quarter_minus, read, small_read, small_zero, sub_fits}
 use Rattle.weights.proofs.sums.q_of.Goals as goal

@@ -1,6 +1,5 @@
 -- A weight counts where the parity names all three wires.
 use native.Mathlib.Omega.{arith}
-use borrow.Author.Rules.{rules}
 use Rattle.weights.proofs.SignedSum.{share_no_i, share_no_j, share_no_k, share_whole}
 use Rattle.weights.proofs.sums.share.Goals as goal
 
