@@ -92,7 +92,7 @@ module _ (n : ℕ) (marks cells marks' : List ℕ) (r : Moved) (promise : Carrie
   done_few differ e =
       rw (done_differ differ e) (move_differs_few marks (done_legal differ e).0.sound.none (z_of cells) (set_of cells))
 
-  -- and Y has at most maxMembers
+  -- and Y has at most max_members
   pub done_under : (differ : ℕ) → r ≡ Done differ → differ ≤ 2 * max_members + 1
   done_under differ e =
       omega (arith, done_few differ e, set-few ((cells_checked max_members n marks cells).0 (done_legal differ e).1).0)

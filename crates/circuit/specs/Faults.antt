@@ -11,15 +11,15 @@ use Rattle.circuit.specs.declared.Reply.TheVariants.{Done, Refused}
 
 -- ---- the table's numbers, each once by name
 
--- wire count 0 or above maxWires
+-- wire count 0 or above max_wires
 abbrev pub wire_count : ℕ
 wire_count = 1
 
--- list not a multiple of three bytes, or over maxListBytes
+-- list not a multiple of three bytes, or over max_list_bytes
 abbrev pub list_length : ℕ
 list_length = 2
 
--- kind outside 1 to lastKind
+-- kind outside 1 to last_kind
 abbrev pub gate_kind : ℕ
 gate_kind = 3
 

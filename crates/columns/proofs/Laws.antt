@@ -10,7 +10,7 @@ use Rattle.columns.proofs.Entries.{entry_is}
 use Rattle.columns.proofs.Wires.{column_wires}
 use Rattle.columns.specs.Table.{ProductEntry, ProductTable}
 
--- `product`: productBits bits with this rule are the product entry
+-- `product`: product_bits bits with this rule are the product entry
 pub entry_is_product : (p r : ℕ) → ProductEntry p r → r ≡ product max_wires p
 entry_is_product = entry_is
 

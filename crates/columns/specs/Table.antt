@@ -4,7 +4,7 @@ use Rattle.circuit.specs.Limits.{max_wires, parities, product_bits}
 use Rattle.gf2.specs.Bit.{bit}
 use Rattle.moves.specs.Product.{tri}
 
--- r has productBits bits, and for i ≤ j, bit j(j+1)/2 + i of it is set when p names both i and j
+-- r has product_bits bits, and for i ≤ j, bit j(j+1)/2 + i of it is set when p names both i and j
 pub record ProductEntry (p r : ℕ) : Type 0 where
   pub fits : r < 2 ^ product_bits
   pub rule : (i j : ℕ) → i ≤ j → j < max_wires → bit r (tri j + i) ≡ bit p i * bit p j

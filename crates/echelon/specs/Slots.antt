@@ -30,7 +30,7 @@ pub record SlotMembers (member : List ℕ) : Type 0 where
   pub long : length member ≡ product_bits
   pub below : Below parities member
 
--- productBits slots, and beside each a mask of slots and a member
+-- product_bits slots, and beside each a mask of slots and a member
 pub record Slots (filled : ℕ) (vec by member : List ℕ) : Type 0 where
   pub masked : Masked filled vec
   pub by_long : length by ≡ product_bits

@@ -23,7 +23,7 @@ pub data Entry : Type 0 where
 pub data Case : Type 0 where
   -- reading these gates on n wires gives these weights, 0 elsewhere, these rows 0 to n - 1, that many T gates and an odd set of that size
   reads : (n : ℕ) → List Gate → List Entry → List ℕ → (t : ℕ) → (odd : ℕ) → Case
-  -- every trim of these gates on n wires reports these five counts (that there is one: trimmer/proofs/Laws, done-exactly)
+  -- every trim of these gates on n wires reports these five counts (that there is one: trimmer/proofs/Laws, done_exactly)
   trims : (n : ℕ) → List Gate → Counts → Case
   -- these gates on n wires have that fault first, at that gate
   refuses : (n : ℕ) → List Gate → (number : ℕ) → (place : ℕ) → Case

@@ -136,7 +136,7 @@ none_legal_stays most n size log m k m' none r =
 
 -- ---- the limits
 
--- the marks have room, Y may have as many members as the bound's proof needs, and an entry has productBits bits
+-- the marks have room, Y may have as many members as the bound's proof needs, and an entry has product_bits bits
 pub limits_suffice : (n : ℕ) → n ≤ max_wires → (2 ^ n ≤ parities) × (tri n + 1 ≤ max_members) × (tri max_wires ≡ product_bits)
 unfolding tri
 limits_suffice n h = (pow_mono {i = n} {j = max_wires} h, few, refl)

@@ -4,7 +4,7 @@ use Rattle.std.specs.Prelude.{cond, List, [], ◌++◌, ◌∷◌, ◌≡◌, �
 use Rattle.circuit.specs.Limits.{move_head}
 use Rattle.moves.specs.Move.{Legal, NoneBelow}
 
--- z, the number in Y, Y ascending, zeros: most + moveHead cells in all
+-- z, the number in Y, Y ascending, zeros: most + move_head cells in all
 unfoldable pub as_cells : ℕ → ℕ → List ℕ → List ℕ
 as_cells most z Y = z ∷ length Y ∷ (Y ++ replicate (most - length Y) 0)
 

@@ -1,4 +1,4 @@
--- The first textBytes bytes of a text decide what it is: the digits and newlines of line one and of the most gate lines, and whether there
+-- The first text_bytes bytes of a text decide what it is: the digits and newlines of line one and of the most gate lines, and whether there
 -- is one byte more.
 use mathlib.Core.Bool.{Bool, false, true}
 use mathlib.Core.List.{List, [], ◌∷◌}

@@ -12,7 +12,7 @@ abbrev pub wires_in : Line → ℕ
 wires_in l = get_or (line_decoded l) 0 0
 
 -- the first fault of the gate lines, the first of which is gate line i, counted from 0: line i + 2 of the text.
--- Gate line maxGates + 1 gives 2 whatever it holds
+-- Gate line max_gates + 1 gives 2 whatever it holds
 unfoldable pub gates_fault : ℕ → List Line → Reply
 gates_fault i [] = Done
 gates_fault i (l ∷ ls) =

@@ -1,4 +1,4 @@
--- What is left of v is below 2 ^ productBits, and the slots taken off it make up the difference; what is left falls at each turn.
+-- What is left of v is below 2 ^ product_bits, and the slots taken off it make up the difference; what is left falls at each turn.
 use Prim.Native.Nat.{◌<◌, ◌^◌}
 use Rattle.circuit.specs.Limits.{product_bits}
 use Rattle.gf2.specs.Echelon.{Reached, held}
