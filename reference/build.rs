@@ -1,4 +1,4 @@
-//! Links the proved library, `libcapi.a`, which `rt staticlib capi` makes in the repository's root.
+//! Links the proved library, `libcapi.a`, which `rt lib` makes in `crates/capi/out`.
 //! The variable SULMEDRA_LIB_DIR names another folder to take it from.
 //!
 //! The variable SULMEDRA_BEFORE_DIR names a folder with `libbefore.a`, an earlier library, which the benchmark then times
@@ -22,7 +22,7 @@ fn main() {
     println!("cargo:rerun-if-env-changed=SULMEDRA_LIB_DIR");
     println!("cargo:rerun-if-env-changed=SULMEDRA_BEFORE_DIR");
     println!("cargo:rustc-check-cfg=cfg(before)");
-    link(&library_folder(), "capi", "run `rt staticlib capi` in the repository's root first");
+    link(&library_folder(), "capi", "run `rt lib` in crates/capi first");
     if let Some(folder) = env::var_os("SULMEDRA_BEFORE_DIR") {
         link(Path::new(&folder), "before", "build.rs says how it is made");
         println!("cargo:rustc-cfg=before");
@@ -44,5 +44,5 @@ fn library_folder() -> PathBuf {
         return PathBuf::from(folder);
     }
     let package = env::var_os("CARGO_MANIFEST_DIR").expect("cargo names the package's folder");
-    PathBuf::from(package).join("..").join("target").join("staticlib")
+    PathBuf::from(package).join("..").join("crates").join("capi").join("out")
 }

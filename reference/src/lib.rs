@@ -24,11 +24,11 @@
 //!   the published search taken literally. The first makes the proved code's own search, and the second its checks, so
 //!   comparisons with the library take inputs from them at most.
 //!
-//! The comparisons stand in `tests/`. With the library made by `rt staticlib capi` in the repository's root, run
+//! The comparisons stand in `tests/`. With the library made by `rt lib` in `crates/capi`, run
 //! `cargo test --release --offline` here. Each group of C functions is compared once its feature is on: `weights`,
 //! `moves`, `writing`, `trim`, `text`, `comparing`; `program` for the whole reply to a text, in C and by the program,
-//! which `rt check trim` makes; and `same` for the program that compares two files, which `rt check same` makes. Tests
-//! named `own_` call no C function: there the reference is held against itself.
+//! which `rt run` makes in `crates/trim`; and `same` for the program that compares two files, which `rt run` makes in
+//! `crates/same`. Tests named `own_` call no C function: there the reference is held against itself.
 
 pub mod again;
 pub mod alike;

@@ -1,7 +1,8 @@
 //! The proved programs `trim` and `same`, run as processes.
 //!
-//! They stand in `target/bin` of the repository's root, where `rt check trim` and `rt check same` make them. The
-//! variables SULMEDRA_PROGRAM and SULMEDRA_SAME name other files to run. Where no program is named below, it is `trim`.
+//! They are `crates/trim/out/trim` and `crates/same/out/same`, as `rt run` makes them in `crates/trim` and in
+//! `crates/same`. The variables SULMEDRA_PROGRAM and SULMEDRA_SAME name other files to run. Where no program is named
+//! below, it is `trim`.
 
 use std::ffi::OsStr;
 use std::fs::{self, File};
@@ -106,11 +107,11 @@ impl Program {
         if let Some(path) = env::var_os(self.variable) {
             return PathBuf::from(path);
         }
-        PathBuf::from(env!("CARGO_MANIFEST_DIR")).join("..").join("target").join("bin").join(self.name)
+        PathBuf::from(env!("CARGO_MANIFEST_DIR")).join("..").join("crates").join(self.name).join("out").join(self.name)
     }
 
     fn missing(&self, error: io::Error) -> ! {
-        panic!("{}: {error}; run `rt check {}` in the repository's root first", self.path().display(), self.name)
+        panic!("{}: {error}; run `rt run` in crates/{} first", self.path().display(), self.name)
     }
 
     /// A shell that does `first` and then becomes the program, with the arguments that are added. It finds the program

@@ -404,14 +404,13 @@ fn a_read_that_fails_after_some_bytes() {
     by_itself(ended, "", "trim: standard input: Resource temporarily unavailable\n", "no more bytes yet");
 }
 
-/// Output that nobody reads: SIGPIPE, signal 13, ends the program in silence; if it is ignored, standard error tells.
+/// Output that nobody reads: standard error tells, as SIGPIPE is ignored, by the shell or by the program itself.
 #[test]
 fn a_pipe_that_nobody_reads() {
-    let ended = fourteen_after("", Stdio::from(unread_pipe()));
-    assert_eq!((ended.status.code(), ended.status.signal()), (None, Some(13)));
-    assert_eq!(ended.complaint, "");
-    let ended = fourteen_after("trap '' PIPE", Stdio::from(unread_pipe()));
-    by_itself(ended, "", "trim: standard output: Broken pipe\n", "SIGPIPE ignored");
+    for first in ["", "trap '' PIPE"] {
+        let ended = fourteen_after(first, Stdio::from(unread_pipe()));
+        by_itself(ended, "", "trim: standard output: Broken pipe\n", first);
+    }
 }
 
 /// A file that may not grow as long as the reply has its first part, and standard error tells.

@@ -1,30 +1,34 @@
-// Texts from a file descriptor, for the programs: what C puts into a buffer, no contract can say. No entry.
+// Texts from a reader, for the programs. Which bytes the system puts into a buffer, no contract can say. No entry.
 #![tactic(auto)]
 
-ghost use Rattle.input.specs.Kept.{Within};
+ghost use Rattle.input.specs.Kept.{Takes, TakesSome, Within};
+
+use std::io;
+use std::io::Read;
 
 // The first bytes of a text, so many, or a read that failed.
 #[derive(Drop)]
 pub enum Input {
     Read { bytes: usize },
-    Failed,
+    Failed { error: io::Error },
 }
 
 // Reads to the end of the input, or until the buffer is full. A read that fails is not an end: half a circuit would be another circuit.
-pub fn read_input(fd: i32, buf: &mut [u8]) -> Input
-    ensures { Within buf.new result }
+pub fn read_input<R: Read>(from: &mut R, buf: &mut [u8]) -> Input
+    ensures within { Within buf.new result }
+    ensures takes { Takes (R.remaining from.old) (R.remaining from.new) buf.new result }
 {
     let mut done: usize = 0;
     while done < buf.len() {
-        match read_more(fd, &mut buf[done..]) {
+        match read_more(from, &mut buf[done..]) {
             Input::Read { bytes } => {
                 if bytes == 0 {
                     return Input::Read { bytes: done };
                 }
                 done += bytes;
             }
-            Input::Failed => {
-                return Input::Failed;
+            Input::Failed { error } => {
+                return Input::Failed { error: error };
             }
         }
     }
@@ -32,14 +36,12 @@ pub fn read_input(fd: i32, buf: &mut [u8]) -> Input
 }
 
 // One read; no bytes at the end of the input.
-fn read_more(fd: i32, part: &mut [u8]) -> Input
-    ensures { Within part.new result }
+fn read_more<R: Read>(from: &mut R, part: &mut [u8]) -> Input
+    ensures within { Within part.new result }
+    ensures takes { TakesSome (R.remaining from.old) (R.remaining from.new) part.new result }
 {
-    let got = libc::read(fd, part);
-    if got < 0 {
-        return Input::Failed;
-    }
-    Input::Read {
-        bytes: io::count(got, part),
+    match from.read(part) {
+        Ok(bytes) => Input::Read { bytes: bytes },
+        Err(error) => Input::Failed { error: error },
     }
 }

@@ -1,34 +1,69 @@
 // The program `trim` (document 01, "Text form"): a text from standard input, the reply to standard output. The reply is that of
-// `answer::answer`, which is proved; what reaches a buffer from C, and what C does with one, is assumed.
+// `answer::answer`, and it is passed on as it is: both are proved. Which bytes the system gives and takes is assumed.
 #![tactic(auto)]
+
+ghost use Rattle.std.specs.Prelude.{IfErr, IfSome, OnOk};
+ghost use Rattle.output.specs.Told.{TellsFailure};
+ghost use Rattle.trim.specs.Replies.{LeftBy, Replies, RepliesInPart};
+ghost use Rattle.trim.specs.Streams.{name_of};
 
 use answer::{Answered, answer};
 use input::{Input, read_input};
-use libc::{STDIN_FILENO, STDOUT_FILENO};
+use output::{fail, write_all};
+use std::io;
+use std::io::{Read, Write};
 use text::limits::{REPLY_BYTES, TEXT_BYTES};
 
-// The first TEXT_BYTES bytes of a text decide its reply, so no more are read.
-fn main() {
-    let mut text = [0u8; TEXT_BYTES];
-    match read_input(STDIN_FILENO, &mut text) {
-        Input::Read { bytes } => reply_to(&text[..bytes]),
-        Input::Failed => os::fail(b"trim: standard input"),
+// The stream that failed, and why.
+#[derive(Drop)]
+enum Failure {
+    Reading { error: io::Error },
+    Writing { error: io::Error },
+}
+
+fn main(rt: HostRuntime) {
+    if let Err(failure) = trim_text(&mut rt.stdin(), &mut rt.stdout()) {
+        let _ = tell(failure, &mut rt.stderr());
     }
 }
 
-fn reply_to(text: &[u8]) {
-    let mut out = [0u8; REPLY_BYTES];
-    match answer(text, &mut out) {
-        Answered::Done { bytes } => write_reply(&out[..bytes]),
+// The first TEXT_BYTES bytes of a text decide its reply, so no more are read.
+fn trim_text<R: Read, W: Write>(from: &mut R, out: &mut W) -> Result<(), Failure>
+    ensures whole { OnOk result (IfSome (R.remaining from.old) (λ text. Replies text (W.contents out.old) (W.contents out.new))) }
+    ensures part { IfErr result (λ failure. LeftBy failure (R.remaining from.old) (W.contents out.old) (W.contents out.new)) }
+{
+    let mut text = [0u8; TEXT_BYTES];
+    match read_input(from, &mut text) {
+        Input::Read { bytes } => match reply_to(&text[..bytes], out) {
+            Ok(()) => Ok(()),
+            Err(error) => Err(Failure::Writing { error: error }),
+        },
+        Input::Failed { error } => Err(Failure::Reading { error: error }),
+    }
+}
+
+// Where the reply cannot be written whole, its first part may be.
+fn reply_to<W: Write>(text: &[u8], out: &mut W) -> io::Result<()>
+    ensures whole { OnOk result (Replies text.now (W.contents out.old) (W.contents out.new)) }
+    ensures part { RepliesInPart text.now (W.contents out.old) (W.contents out.new) }
+{
+    let mut reply = [0u8; REPLY_BYTES];
+    match answer(text, &mut reply) {
+        Answered::Done { bytes } => write_all(out, &reply[..bytes]),
+        // There is room for every reply.
         Answered::Refused {
             number: _,
             place: _,
-        } => {}
+        } => unreachable!(),
     }
 }
 
-fn write_reply(reply: &[u8]) {
-    if !io::write_all(STDOUT_FILENO, reply) {
-        os::fail(b"trim: standard output");
+// One line: which stream failed, and the reason.
+fn tell<E: Write>(failure: Failure, errors: &mut E) -> io::Result<()>
+    ensures { OnOk result (TellsFailure (name_of failure) (E.contents errors.old) (E.contents errors.new)) }
+{
+    match failure {
+        Failure::Reading { error } => fail(errors, b"trim: standard input", error),
+        Failure::Writing { error } => fail(errors, b"trim: standard output", error),
     }
 }
