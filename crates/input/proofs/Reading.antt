@@ -1,10 +1,21 @@
 -- What was read, as the first bytes of what the reader had.
-use Rattle.std.proofs.Common.{[], List, None, Some, IfSome, ◌+◌, ◌++◌, ◌-◌, ◌<◌, ◌≡◌, suc, zero, ℕ}
+use Rattle.std.proofs.Common.{[], List, None, Some, IfSome, ◌+◌, ◌++◌, ◌-◌, ◌<◌, ◌≡◌, ◌≤◌, suc, zero, ℕ}
 use Rattle.std.proofs.Common.{ap, append-nil, arith, length, refl, subst, sym, take, ◌∙◌}
-use Rattle.std.proofs.Math.Seq.{take-append-add}
+use Rattle.std.proofs.Math.Seq.{length-take-le, take-append-add}
 use Rattle.std.specs.declared.option.Option.{Option}
 use Rattle.input.specs.Kept.{Takes, Within}
+use Rattle.input.specs.declared.Input.{Input as Kept}
 use Rattle.input.specs.declared.Input.TheVariants.{Read}
+
+-- ---- what a read leaves in a buffer
+
+pub front : (k : ℕ) (buf : List ℕ) → k ≤ length buf → Within buf (Read k)
+front k buf h = (h, sym (length-take-le k buf h))
+
+pub within : (buf : List ℕ) (r : Kept) → Within buf r → (k : ℕ) → r ≡ Read k → Within buf (Read k)
+within buf r w k e = subst (Within buf) e w
+
+-- ---- the first bytes of the whole input
 
 nothing_more : (k : ℕ) (ys : List ℕ) → (0 < k → ys ≡ []) → take k ys ≡ []
 nothing_more zero ys h = refl
