@@ -6,6 +6,7 @@ pub const NEWLINE: u8 = 10;
 
 pub const SPACE: u8 = 32;
 
+#[tactic(auto, using(std::proofs::lemmas::Bool::Decides::nat_tests), unfolding(crate::specs::Hex::is_digit))]
 pub fn is_digit(b: u8) -> bool
     ensures { result ≡ is_digit b }
 {
