@@ -23,7 +23,8 @@ use Rattle.answer.specs.declared.Answered.{Answered}
 use Rattle.answer.specs.declared.Answered.TheVariants.{Done, Refused}
 
 -- a list without a fault is answered by a trim
-pub trim_of : {n : ℕ} {C : List Gate} {bytes : List ℕ} → AllWellFormed n C → PrintsGates (first_fault n 0 C) n C bytes → PrintsTrim n C bytes
+pub trim_of : {n : ℕ} {C : List Gate} {bytes : List ℕ} → AllWellFormed n C → PrintsGates (first_fault n 0 C) n C bytes
+    → PrintsTrim n C bytes
 trim_of {n} {C} {bytes} formed p = subst (λ (v : Reply). PrintsGates v n C bytes) (formed_done n 0 C formed) p
 
 module _ (n : ℕ) (list : List ℕ) (said : Sayable n list) (printed : List ℕ) (p : PrintsTrim n (gates_of list) printed) where
@@ -71,7 +72,8 @@ module _ (n : ℕ) (list : List ℕ) (said : Sayable n list) (printed : List ℕ
       absurd (refused_not_done number place (a.reply ∙ ap call_reply (short_well (length out) reply_bytes room)))
   answered out out' (Done count) room a = left a.out_left
     where
-      left : WritesPrinted (read_text (without_counts printed)) out out' count → AnswersAgain n (gates_of list) printed out out' (Done count)
+      left : WritesPrinted (read_text (without_counts printed)) out out' count
+          → AnswersAgain n (gates_of list) printed out out' (Done count)
       left (again, q, w) =
           record {
             again = again;

@@ -107,7 +107,8 @@ module _ {n : ℕ} {m : List ℕ} (marked : Marked n m) where
 -- ---- what carrying it out takes
 
 -- z and Y, as code takes them from the cells
-pub may_carry : {m b Y : List ℕ} {z : ℕ} → LegalCells max_members max_wires m b → SoundMarks parities max_wires m → z ≡ z_of b → Y ≡ set_of b
+pub may_carry : {m b Y : List ℕ} {z : ℕ} → LegalCells max_members max_wires m b → SoundMarks parities max_wires m → z ≡ z_of b
+    → Y ≡ set_of b
     → Flippable m z Y
 may_carry {m} {b} legal sound d e =
     let said = ((cells_checked max_members max_wires m b).0 legal).1 in

@@ -96,13 +96,15 @@ module _ (n : ℕ) (rows : List ℕ) where
     pub independent_distinct : Distinct
     independent_distinct x y lx ly e =
         xor_equal x y (ends_nowhere (bit_xor x y) (xor_lt n x y lx ly)
-        (bit-ext n (end_state n rows (bit_xor x y)) 0 (end_lt n rows (bit_xor x y)) (omega (arith, lx)) (λ i h. at i h ∙ sym (bit-of_zero i))))
+        (bit-ext n (end_state n rows (bit_xor x y)) 0 (end_lt n rows (bit_xor x y)) (omega (arith, lx))
+        (λ i h. at i h ∙ sym (bit-of_zero i))))
       where
         at : (i : ℕ) → i < n → bit (end_state n rows (bit_xor x y)) i ≡ 0
         at i h =
             let same : parity n (get_or rows i 0) x ≡ parity n (get_or rows i 0) y =
             sym (end_bit n rows x i h) ∙ ap (λ (s : ℕ). bit s i) e ∙ end_bit n rows y i h in
-            end_bit n rows (bit_xor x y) i h ∙ parity-xor_r n (get_or rows i 0) x y ∙ rw same (omega (arith, parity-lt n (get_or rows i 0) y))
+            end_bit n rows (bit_xor x y) i h ∙ parity-xor_r n (get_or rows i 0) x y
+            ∙ rw same (omega (arith, parity-lt n (get_or rows i 0) y))
 
   -- ---- rows that tell the states apart are independent
 

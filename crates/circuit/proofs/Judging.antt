@@ -201,7 +201,8 @@ module _ (n : ℕ) (k : Kind) (a b : ℕ) where
   kind_bad : kind_fault n k a b ≢ 0 → KindHas n (kind_fault n k a b) k a b × ((g : ℕ) → KindHas n g k a b → kind_fault n k a b ≤ g)
   kind_bad ne = go (judge_kind n k a b)
     where
-      go : Judged n k a b (kind_fault n k a b) → KindHas n (kind_fault n k a b) k a b × ((g : ℕ) → KindHas n g k a b → kind_fault n k a b ≤ g)
+      go : Judged n k a b (kind_fault n k a b)
+          → KindHas n (kind_fault n k a b) k a b × ((g : ℕ) → KindHas n g k a b → kind_fault n k a b ≤ g)
       go (well e w) = absurd (ne e)
       go (bad ne h l) = (h, l)
 

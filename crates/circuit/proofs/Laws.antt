@@ -58,7 +58,8 @@ pub one_t_moves_one : (N n : ℕ) → n ≤ N → (xs ys : List Gate) (kind a b 
 one_t_moves_one = t_moves_one
 
 -- so a list has at least as many T and T dagger gates as its odd set has members
-pub odd_set_no_larger : (N n : ℕ) → n ≤ N → (gs : List Gate) → AllWellFormed n gs → member_count (odd_set (read N n gs).weights) ≤ t_gates gs
+pub odd_set_no_larger : (N n : ℕ) → n ≤ N → (gs : List Gate) → AllWellFormed n gs
+    → member_count (odd_set (read N n gs).weights) ≤ t_gates gs
 odd_set_no_larger = odd_set_at_most_t
 
 -- ---- demand 1: the fault that a reply tells

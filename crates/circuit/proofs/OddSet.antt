@@ -184,5 +184,6 @@ members_none N =
     ∙ sum-zero (length (no_weights N))
 
 -- the odd set has at most as many members as the list has T and T dagger gates
-pub odd_set_at_most_t : (N n : ℕ) → n ≤ N → (gs : List Gate) → AllWellFormed n gs → member_count (odd_set (read N n gs).weights) ≤ t_gates gs
+pub odd_set_at_most_t : (N n : ℕ) → n ≤ N → (gs : List Gate) → AllWellFormed n gs
+    → member_count (odd_set (read N n gs).weights) ≤ t_gates gs
 odd_set_at_most_t N n fit gs f = omega (arith, reading_odds N n fit gs (start N n) f (start_sound N n fit), members_none N)

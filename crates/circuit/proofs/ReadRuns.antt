@@ -64,7 +64,8 @@ other_bit a b y i ne =
     (bit-scale (bit y a) (2 ^ b) i (bit-lt y a) ∙ ap (λ (c : ℕ). bit y a * c) (bit-pow_other b i (λ e. ne (sym e))) ∙ mul-zero (bit y a))
     ∙ omega (arith, bit-lt y i)
 
-target_tells : (n x a b y : ℕ) (rows : List ℕ) → a < n → b < n → b < length rows → ((i : ℕ) → i < n → bit y i ≡ parity n (get_or rows i 0) x)
+target_tells : (n x a b y : ℕ) (rows : List ℕ) → a < n → b < n → b < length rows
+    → ((i : ℕ) → i < n → bit y i ≡ parity n (get_or rows i 0) x)
     → (i : ℕ) → i < n → bit (flip_target a b y) i ≡ parity n (get_or (join_rows a b rows) i 0) x
 target_tells n x a b y rows la lb low h i l = go (ℕ_discrete i b)
   where

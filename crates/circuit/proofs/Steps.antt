@@ -16,7 +16,8 @@ use Rattle.circuit.specs.declared.Reply.TheVariants.{Done, Refused}
 
 -- ---- the first fault
 
-module _ (n : ℕ) (bytes : List ℕ) (i : ℕ) (inside : gate_bytes * i + 2 < length bytes) (f : ℕ) (e : f ≡ gate_fault n (byte_gate bytes i)) where
+module _ (n : ℕ) (bytes : List ℕ) (i : ℕ) (inside : gate_bytes * i + 2 < length bytes)
+    (f : ℕ) (e : f ≡ gate_fault n (byte_gate bytes i)) where
   pub fault_here : f ≢ 0 → Refused f i ≡ first_fault n i (gates_from bytes i)
   unfolding first_fault
   fault_here h = sym (refused f i (first_fault n (suc i) (gates_from bytes (i + 1))) h) ∙ rw (gates_step bytes i inside, e)

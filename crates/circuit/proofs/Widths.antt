@@ -22,4 +22,5 @@ trailing_more (suc k) p ne l = go (p % 2) refl (trailing_more k (p / 2))
 -- of n bits, in a word of w
 pub trailing_in : (w n p : ℕ) → n ≤ w → p ≢ 0 → p < 2 ^ n → count_trailing_zeros w p ≡ count_trailing_zeros n p
 trailing_in w n p h ne l =
-    le_ind (λ (m : ℕ). count_trailing_zeros m p ≡ count_trailing_zeros n p) refl (λ m k e. trailing_more m p ne (lt_of_lt_of_le l (pow_mono k)) ∙ e) w h
+    le_ind (λ (m : ℕ). count_trailing_zeros m p ≡ count_trailing_zeros n p) refl
+    (λ m k e. trailing_more m p ne (lt_of_lt_of_le l (pow_mono k)) ∙ e) w h

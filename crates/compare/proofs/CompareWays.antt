@@ -35,11 +35,13 @@ as_second_done (replies.Refused number place) e = absurd (refused_not_done _ pla
 
 module _ (n : ℕ) (first second : List ℕ) {found : Reply} (judged : found ≡ list_reply n first 0) where
   -- the first list refuses
-  pub first_refuses : {number place : ℕ} → found ≡ replies.Refused number place → replies.Refused number place ≡ compare_reply n first second
+  pub first_refuses : {number place : ℕ} → found ≡ replies.Refused number place
+      → replies.Refused number place ≡ compare_reply n first second
   first_refuses e = rw (sym judged ∙ e)
 
   -- or it is done, and the second decides
-  pub second_decides : {next : Reply} → found ≡ replies.Done → next ≡ as_second (list_reply n second 0) → next ≡ compare_reply n first second
+  pub second_decides : {next : Reply} → found ≡ replies.Done → next ≡ as_second (list_reply n second 0)
+      → next ≡ compare_reply n first second
   second_decides e f = f ∙ rw (sym judged ∙ e)
 
 -- no fault is found exactly in lists that are both accepted

@@ -184,7 +184,8 @@ pub fn compared_in_c(reply: Compared) -> SulmedraCompared
 }
 
 pub fn found_in_c(reply: Finding) -> SulmedraFound
-    ensures { (result.number ≡ number_of (find.told reply)) × (result.place ≡ place_of (find.told reply)) × (result.found ≡ find.found_of reply) }
+    ensures { (result.number ≡ number_of (find.told reply)) × (result.place ≡ place_of (find.told reply))
+        × (result.found ≡ find.found_of reply) }
 {
     match reply {
         Finding::Found => SulmedraFound {
@@ -224,8 +225,10 @@ pub fn written_in_c(reply: Written) -> SulmedraWritten
 }
 
 pub fn trimmed_in_c(reply: TrimReply) -> SulmedraTrimmed
-    ensures { (result.number ≡ number_of (trim.told reply)) × (result.place ≡ place_of (trim.told reply)) × (result.tin ≡ (trim.counts_of reply).tin)
-        × (result.odd ≡ (trim.counts_of reply).odd) × (result.tout ≡ (trim.counts_of reply).tout) × (result.moves ≡ (trim.counts_of reply).moves)
+    ensures { (result.number ≡ number_of (trim.told reply)) × (result.place ≡ place_of (trim.told reply))
+        × (result.tin ≡ (trim.counts_of reply).tin)
+        × (result.odd ≡ (trim.counts_of reply).odd) × (result.tout ≡ (trim.counts_of reply).tout)
+        × (result.moves ≡ (trim.counts_of reply).moves)
         × (result.gates ≡ (trim.counts_of reply).gates) }
 {
     match reply {

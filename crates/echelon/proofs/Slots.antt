@@ -51,7 +51,8 @@ module _ {vec : List ℕ} {left s : ℕ} (shape : Shape product_bits vec) (b : L
   falls ne = omega (arith, step_lt product_bits vec shape s left b.slot b.hi b.lo ne, b.lo)
 
   -- and the slot is among those used
-  pub taken : {v used : ℕ} → get_or vec s 0 ≢ 0 → Reached vec v left used → Reached vec v (bit_xor left (get_or vec s 0)) (bit_xor used (2 ^ s))
+  pub taken : {v used : ℕ} → get_or vec s 0 ≢ 0 → Reached vec v left used
+      → Reached vec v (bit_xor left (get_or vec s 0)) (bit_xor used (2 ^ s))
   taken {v} {used} ne r = reached_step vec product_bits v left used s shape b.slot b.lo b.hi ne r
 
 -- ---- a column goes in
@@ -103,7 +104,8 @@ module _ {by : List ℕ} {used m s : ℕ} (h : MaskTo by used m s) where
       ∙ sym (steady (by_members by used) h.k n g
       (λ j f i e. by_off by used j (ap (λ (x : ℕ). bit x j) (e ∙ sym h.is) ∙ h.next.passed j f (omega arith)) ∙ e))
 
-  pub mask_turn : {s' : ℕ} → s < product_bits → NextSlot (bit_xor m (get_or by s 0)) (s + 1) s' → MaskTo by used (bit_xor m (get_or by s 0)) s'
+  pub mask_turn : {s' : ℕ} → s < product_bits → NextSlot (bit_xor m (get_or by s 0)) (s + 1) s'
+      → MaskTo by used (bit_xor m (get_or by s 0)) s'
   mask_turn l t =
       let is : m ≡ by_members by used s = mask_at s h.next.from (le_refl s) in
       record {

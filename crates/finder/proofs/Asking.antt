@@ -87,7 +87,8 @@ module _ {marks ys : List ℕ} {z t i a b v filled : ℕ} {vec by member : List 
       rw (e, same.vec_is, same.by_is, same.member_is) (record {
         slots = h.slots;
         basis =
-            basis_same product_bits (column max_wires z t) (pair_tag marks z) (Had marks ys z t i) (Had marks ys z t (i + 1)) (held filled vec)
+            basis_same product_bits (column max_wires z t) (pair_tag marks z) (Had marks ys z t i) (Had marks ys z t (i + 1))
+            (held filled vec)
             by member had_wider h.basis (had_none T all.sound none);
       })
   asked_next (inr (inl (some, o))) =
@@ -104,7 +105,8 @@ module _ {marks ys : List ℕ} {z t i a b v filled : ℕ} {vec by member : List 
       rw (e, same.vec_is, same.by_is, same.member_is) (record {
         slots = h.slots;
         basis =
-            basis_had product_bits (column max_wires z t) (pair_tag marks z) (Had marks ys z t i) (Had marks ys z t (i + 1)) (held filled vec)
+            basis_had product_bits (column max_wires z t) (pair_tag marks z) (Had marks ys z t i) (Had marks ys z t (i + 1))
+            (held filled vec)
             by member had_wider h.basis a (had_last T)
             (passed parities max_wires (le_refl _) marks all.sound z t product_bits (Had marks ys z t i) had_stands (held filled vec) by
             member h.basis h.slots.members.long a (a_stands some) u.used (rw v_is at u.reached) (rw z_is at u.none));

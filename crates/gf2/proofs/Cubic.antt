@@ -64,7 +64,8 @@ module _ (z i j k : ℕ) where
       ∙ even3 (A * sum_over (λ y. bit y k) ys) (B * sum_over (λ y. bit y j) ys) (C * sum_over (λ y. bit y i) ys)
       (even_mul A _ (even_bits ys h k)) (even_mul B _ (even_bits ys h j)) (even_mul C _ (even_bits ys h i))
 
-  pub cubic : (ys : List ℕ) → xor_all ys ≡ 0 → sum_over quad ys % 2 ≡ 0 → (sum_over cub ys + length ys * (bit z i * bit z j * bit z k)) % 2 ≡ 0
+  pub cubic : (ys : List ℕ) → xor_all ys ≡ 0 → sum_over quad ys % 2 ≡ 0
+      → (sum_over cub ys + length ys * (bit z i * bit z j * bit z k)) % 2 ≡ 0
   cubic ys hx hq =
       let Z : ℕ = bit z i * bit z j * bit z k in
       close (sum_over cub ys) (sum_over quad ys) (sum_over lin ys) (length ys * Z)

@@ -64,7 +64,8 @@ module _ (filled : ℕ) (vec : List ℕ) (s x : ℕ) (l : s < length vec) (off :
   pub held_put : held (bit_xor filled (2 ^ s)) (set vec s x) ≡ set (held filled vec) s x
   held_put =
       ext_get_or 0 (held (bit_xor filled (2 ^ s)) (set vec s x)) (set (held filled vec) s x)
-      (held_long (bit_xor filled (2 ^ s)) (set vec s x) ∙ length-set vec s x ∙ sym (length-set (held filled vec) s x ∙ held_long filled vec))
+      (held_long (bit_xor filled (2 ^ s)) (set vec s x) ∙ length-set vec s x
+      ∙ sym (length-set (held filled vec) s x ∙ held_long filled vec))
       (λ j h. go j (ℕ_discrete j s))
     where
       go : (j : ℕ) → Dec (j ≡ s) → get_or (held (bit_xor filled (2 ^ s)) (set vec s x)) j 0 ≡ get_or (set (held filled vec) s x) j 0

@@ -77,7 +77,8 @@ bit-counted zero p l = absurd (omega arith)
 bit-counted (suc k) p l = go (p % 2) refl l (bit-counted k (p / 2))
   where
     go : (c : ℕ) → p % 2 ≡ c → under c (count_trailing_zeros k (p / 2)) < suc k
-        → (count_trailing_zeros k (p / 2) < k → bit (p / 2) (count_trailing_zeros k (p / 2)) ≡ 1) → bit p (under c (count_trailing_zeros k (p / 2))) ≡ 1
+        → (count_trailing_zeros k (p / 2) < k → bit (p / 2) (count_trailing_zeros k (p / 2)) ≡ 1)
+        → bit p (under c (count_trailing_zeros k (p / 2))) ≡ 1
     go zero e h r = bit-suc p (count_trailing_zeros k (p / 2)) ∙ r (omega arith)
     go (suc zero) e h r = bit-zero p ∙ e
     go (suc (suc c)) e h r = absurd (omega arith)

@@ -84,7 +84,8 @@ pub sum-double : (k : ℕ) (f : ℕ → ℕ) → sum (2 ^ suc k) f ≡ sum (2 ^ 
 sum-double k f = ap (λ (n : ℕ). sum n f) (two-pow-succ k) ∙ sum-append (2 ^ k) (2 ^ k) f
 
 -- x and y by their top bits a and b and the k low digits
-xor_at : (k x y a b p z : ℕ) → x ≡ a * 2 ^ k + p → y ≡ b * 2 ^ k + z → p < 2 ^ k → z < 2 ^ k → bit_xor x y ≡ bit_xor a b * 2 ^ k + bit_xor p z
+xor_at : (k x y a b p z : ℕ) → x ≡ a * 2 ^ k + p → y ≡ b * 2 ^ k + z → p < 2 ^ k → z < 2 ^ k
+    → bit_xor x y ≡ bit_xor a b * 2 ^ k + bit_xor p z
 xor_at k x y a b p z ex ey hp hz = rw (ex, ey) (xor_block k a b p z hp hz)
 
 pub sum-xor : (k z : ℕ) (f : ℕ → ℕ) → z < 2 ^ k → sum (2 ^ k) (λ p. f (bit_xor p z)) ≡ sum (2 ^ k) f

@@ -27,7 +27,8 @@ weighted_sum-add_at m w c q v h =
 
 pub weighted_sum-ext : (w : List ℕ) (f g : ℕ → ℕ) → ((p : ℕ) → f p ≡ g p) → weighted_sum w f ≡ weighted_sum w g
 unfolding weighted_sum
-weighted_sum-ext w f g h = sum-ext (length w) (λ p. get_or w p 0 * f p) (λ p. get_or w p 0 * g p) (λ p l. ap (λ (t : ℕ). get_or w p 0 * t) (h p))
+weighted_sum-ext w f g h =
+    sum-ext (length w) (λ p. get_or w p 0 * f p) (λ p. get_or w p 0 * g p) (λ p l. ap (λ (t : ℕ). get_or w p 0 * t) (h p))
 
 pub length-tabulate : (k : ℕ) (f : ℕ → ℕ) → length (tabulate k f) ≡ k
 unfolding tabulate

@@ -141,7 +141,8 @@ module _ {a m : ℕ} {member : List ℕ} {s : ℕ} {marks : List ℕ} {x top : �
       (λ j f i e. xor_off m j member (h.next.passed j f (omega arith)) ∙ e))
 
   module _ (slots : SlotMembers member) where
-    pub naming_turn : {y s' : ℕ} {marks' : List ℕ} → s < product_bits → y ≡ get_or member s 0 → marks' ≡ flip marks y → NextSlot m (s + 1) s'
+    pub naming_turn : {y s' : ℕ} {marks' : List ℕ} → s < product_bits → y ≡ get_or member s 0 → marks' ≡ flip marks y
+        → NextSlot m (s + 1) s'
         → NamedTo a m member s' marks' (bit_xor x y) (bit_or top y)
     naming_turn {y} {s'} {marks'} l of t next =
         let on : bit m s ≡ 1 = h.next.on l in
@@ -313,7 +314,8 @@ module _ {marks member set : List ℕ} {z a m r : ℕ} (w : SetNamed a m member 
 
 -- ---- the loop over the marks
 
-pub list_none : (z : ℕ) (f : ℕ → ℕ) (cells : List ℕ) → cells ≡ set (replicate move_cells 0) 0 z → cells ≡ as_cells max_members z (listed 0 f)
+pub list_none : (z : ℕ) (f : ℕ → ℕ) (cells : List ℕ) → cells ≡ set (replicate move_cells 0) 0 z
+    → cells ≡ as_cells max_members z (listed 0 f)
 unfolding listed
 list_none z f cells e = e ∙ sym (cells_none max_members z)
 
@@ -343,7 +345,8 @@ module _ (z : ℕ) (marks : List ℕ) (h : Few marks) (y : ℕ) (inside : y < pa
   list_on k cells₁ cells₂ e c f g =
       let Y : List ℕ = listed y (λ p. get_or marks p 0) in
       let room : length Y < max_members = omega (arith, list_room e, count) in
-      rw (g, f, c, count, is) (cells_more max_members z Y y room ∙ ap (as_cells max_members z) (sym (listed_on y (λ p. get_or marks p 0) e)))
+      rw (g, f, c, count, is) (cells_more max_members z Y y room
+      ∙ ap (as_cells max_members z) (sym (listed_on y (λ p. get_or marks p 0) e)))
 
   pub list_off : get_or marks y 0 ≢ 1 → ListedTo z marks (y + 1) cells
   list_off ne = is ∙ ap (as_cells max_members z) (sym (listed_off y (λ p. get_or marks p 0) (omega (arith, h.bits y))))

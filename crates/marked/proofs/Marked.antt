@@ -19,8 +19,10 @@ use Rattle.marked.proofs.Testing.{all_claimed, all_c, all_hold, all_l, all_q, ar
 use Rattle.marked.specs.Cases.{AllClaimed, cases, ones_to, rows_with, weights_with}
 
 computed : T (all_hold cases)
-unfolding cases all_hold holds is_refusal is_nothing are_none ones_to rows_with weights_with all_l all_q all_c same_cells first_fault gate_fault
-    read_from read_kind kind_of first_rows no_weights t_gates is_t odd_set member_count l q c is_legal every any carry_out flip_pairs flip_if
+unfolding cases all_hold holds is_refusal is_nothing are_none ones_to rows_with weights_with all_l all_q all_c same_cells first_fault
+    gate_fault
+    read_from read_kind kind_of first_rows no_weights t_gates is_t odd_set member_count l q c is_legal every any carry_out flip_pairs
+    flip_if
     new_weights pad rest by_wires one_rest pair_rest tabulate weighted_sum combine sum sum_over xor_all delta bit ones count_trailing_zeros
 computed = tt
 

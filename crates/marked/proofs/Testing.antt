@@ -70,7 +70,8 @@ c_all n w d t i j k h g f =
 unfoldable pub is_nothing : List Gate → Bool
 is_nothing gs =
     eqb (t_gates gs) 0 &&
-    (eqb (member_count (odd_set_of 1 gs)) 0 && same_cells (new_weights parities 1 (weights_of 1 gs) (odd_set_of 1 gs)) (no_weights max_wires))
+    (eqb (member_count (odd_set_of 1 gs)) 0
+    && same_cells (new_weights parities 1 (weights_of 1 gs) (odd_set_of 1 gs)) (no_weights max_wires))
 
 is_nothing_lem : (gs : List Gate) → T (is_nothing gs) → NothingToWrite gs
 unfolding is_nothing
@@ -102,7 +103,8 @@ holds (reads n gs es rows t odd) =
 holds (trims n gs k) = eqb n 1 && (is_nothing gs && are_none k)
 holds (refuses n gs number place) = is_refusal (first_fault n 0 gs) number place
 holds (coefficients n es a b d) = all_l n (weights_with es) a && (all_q n (weights_with es) b && all_c n (weights_with es) d)
-holds (leaves n es z Y left) = is_legal max_members n (odd_set_with es) z Y && same_cells (carry_out (odd_set_with es) z Y) (weights_with left)
+holds (leaves n es z Y left) =
+    is_legal max_members n (odd_set_with es) z Y && same_cells (carry_out (odd_set_with es) z Y) (weights_with left)
 holds (dependent n rows s) = ltb 0 s && (ltb s (2 ^ n) && eqb (combine s (rows_with rows)) 0)
 
 pub claimed : (k : Case) → T (holds k) → Claim k
@@ -111,7 +113,8 @@ claimed (reads n gs es rows t odd) h =
     let w : List ℕ = (read max_wires n gs).weights in
     let s : List ℕ = (read max_wires n gs).rows in
     let a =
-    (T-both (same_cells w (weights_with es)) (same_cells s (rows_with rows) && (eqb (t_gates gs) t && eqb (member_count (odd_set w)) odd))).0 h in
+    (T-both (same_cells w (weights_with es))
+    (same_cells s (rows_with rows) && (eqb (t_gates gs) t && eqb (member_count (odd_set w)) odd))).0 h in
     let b = (T-both (same_cells s (rows_with rows)) (eqb (t_gates gs) t && eqb (member_count (odd_set w)) odd)).0 a.1 in
     let d = (T-both (eqb (t_gates gs) t) (eqb (member_count (odd_set w)) odd)).0 b.1 in (
       (same_decided w (weights_with es)).0 a.0,

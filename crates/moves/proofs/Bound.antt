@@ -181,7 +181,8 @@ module _ (size n most : ℕ) (marks : List ℕ) (sound : SoundMarks size n marks
                   z_is = refl;
                 };
             balanced =
-                products_balanced n (bit_xor a b) Y (λ i l. member_lt size n marks sound (get_or Y i 0) (member (get_or Y i 0) (i, l, refl)))
+                products_balanced n (bit_xor a b) Y
+                (λ i l. member_lt size n marks sound (get_or Y i 0) (member (get_or Y i 0) (i, l, refl)))
                 (products_even n Y (chosen_xor u (product n) ys ∙ zeroes));
           }
 

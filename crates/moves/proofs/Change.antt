@@ -41,7 +41,8 @@ sum-pairs w z (y ∷ Y) c h k =
     let e₂ : length w₂ ≡ length w = length-set w₁ (bit_xor y z) _ ∙ e₁ in
     sum-pairs w₂ z Y c (λ i l. rw e₂ (h (suc i) (suc-le-suc l))) (λ i l. rw e₂ (k (suc i) (suc-le-suc l)))
     ∙ chain (weighted_sum w₂ c) (weighted_sum w₁ c) (weighted_sum w c) (c y) (c (bit_xor y z)) (sum_over (λ y. c y + c (bit_xor y z)) Y)
-    (weighted_sum-add_at 2 w₁ c (bit_xor y z) 1 (rw e₁ (k 0 (suc-le-suc zero-le)))) (weighted_sum-add_at 2 w c y 1 (h 0 (suc-le-suc zero-le)))
+    (weighted_sum-add_at 2 w₁ c (bit_xor y z) 1 (rw e₁ (k 0 (suc-le-suc zero-le))))
+    (weighted_sum-add_at 2 w c y 1 (h 0 (suc-le-suc zero-le)))
     ∙ ap (λ (n : ℕ). (weighted_sum w c + n) % 2) (sym (sum_over-cons (λ y. c y + c (bit_xor y z)) y Y))
 
 sum-if : (r : ℕ) (w : List ℕ) (z : ℕ) (c : ℕ → ℕ) → r < 2 → z < length w

@@ -34,7 +34,8 @@ in_decided y Y = (
 
 pub ascending_decided : (Y : List ℕ) → T (is_ascending Y) ↔ Ascending Y
 ascending_decided Y = (
-  λ t i l. ltb→lt (get_or Y i 0) (get_or Y (suc i) 0) (every-at (length Y - 1) (λ i. ltb (get_or Y i 0) (get_or Y (suc i) 0)) t i (omega arith)),
+  λ t i l. ltb→lt (get_or Y i 0) (get_or Y (suc i) 0)
+      (every-at (length Y - 1) (λ i. ltb (get_or Y i 0) (get_or Y (suc i) 0)) t i (omega arith)),
   λ a. at_every (length Y - 1) (λ i. ltb (get_or Y i 0) (get_or Y (suc i) 0))
       (λ i l. lt→ltb (get_or Y i 0) (get_or Y (suc i) 0) (a i (omega arith))),
 )
@@ -43,7 +44,8 @@ pub members_decided : (marks Y : List ℕ) → T (are_members marks Y) ↔ ((y :
 members_decided marks Y = (
   λ t y s. rw (← s.2)
       (eqb→eq (weight marks (get_or Y s.0 0)) 1 (every-at (length Y) (λ i. is_member marks (get_or Y i 0)) t s.0 s.1)),
-  λ m. at_every (length Y) (λ i. is_member marks (get_or Y i 0)) (λ i l. eqb_same (weight marks (get_or Y i 0)) 1 (m (get_or Y i 0) (i, l, refl))),
+  λ m. at_every (length Y) (λ i. is_member marks (get_or Y i 0))
+      (λ i l. eqb_same (weight marks (get_or Y i 0)) 1 (m (get_or Y i 0) (i, l, refl))),
 )
 
 -- z separates where, for some a in Y, a xor z is a member and not in Y

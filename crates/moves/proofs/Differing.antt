@@ -267,5 +267,6 @@ pub differing-clear : (m w : List ℕ) → 0 < length m → length w ≡ length 
     → differing m (set w 0 0) + get_or w 0 0 ≡ differing m w
 differing-clear m w some long none b =
     let zero_none : unlike (get_or m 0 0) 0 ≡ 0 = rw none (unlike_same 0) in
-    let zero_was : unlike (get_or m 0 0) (get_or w 0 0) ≡ get_or w 0 0 = rw none (unlike_bits 0 (get_or w 0 0) (omega arith) b ∙ omega arith) in
+    let zero_was : unlike (get_or m 0 0) (get_or w 0 0) ≡ get_or w 0 0 =
+    rw none (unlike_bits 0 (get_or w 0 0) (omega arith) b ∙ omega arith) in
     omega (arith, differing-set m w 0 0 some long, zero_none, zero_was)

@@ -151,7 +151,8 @@ module _ (size n most : ℕ) (room : 2 ^ n ≤ size) (marks : List ℕ) (sound :
         subst (λ (k : ℕ). sum k (λ p. get_or (flip w y) p 0) + 1 ≡ sum k (λ p. get_or w p 0)) long
         (flipped_off w y (rw long y_fits) pair.on) in
         let on : sum size (λ p. get_or w₂ p 0) ≤ sum size (λ p. get_or w₁ p 0) + 1 =
-        subst (λ (k : ℕ). sum k (λ p. get_or (flip w₁ b) p 0) ≤ sum k (λ p. get_or w₁ p 0) + 1) long₁ (flipped_few w₁ b (rw long₁ b_fits)) in
+        subst (λ (k : ℕ). sum k (λ p. get_or (flip w₁ b) p 0) ≤ sum k (λ p. get_or w₁ p 0) + 1) long₁
+        (flipped_few w₁ b (rw long₁ b_fits)) in
         omega (arith, few)
 
     all₂ : (v : ℕ → ℕ) → xor_all (map v (set_of size w₂)) ≡ bit_xor (v b) (bit_xor (v y) (xor_all (map v (set_of size w))))

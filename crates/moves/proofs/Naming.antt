@@ -119,7 +119,8 @@ module _ (size : ℕ) (member : List ℕ) (m : ℕ) where
       ∙ sym (combine-first m (map v member))
   named_xor v (suc k) h r = go (bit m k) refl (named_xor v k (omega arith) (λ j l. r j (omega arith)))
     where
-      go : (e : ℕ) → bit m k ≡ e → xor_all (map v (listed size (λ p. get_or (named size member m k) p 0))) ≡ combine (m % 2 ^ k) (map v member)
+      go : (e : ℕ) → bit m k ≡ e
+          → xor_all (map v (listed size (λ p. get_or (named size member m k) p 0))) ≡ combine (m % 2 ^ k) (map v member)
           → xor_all (map v (listed size (λ p. get_or (flip_if e (named size member m k) (get_or member k 0)) p 0)))
           ≡ combine (m % 2 ^ suc k) (map v member)
       go zero e ih =

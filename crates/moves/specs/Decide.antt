@@ -39,4 +39,5 @@ same_cells (x ∷ xs) (y ∷ ys) = eqb x y && same_cells xs ys
 
 -- the cells are those of a legal move for these marks
 unfoldable pub is_move : ℕ → ℕ → List ℕ → List ℕ → Bool
-is_move most n marks cells = same_cells cells (as_cells most (z_of cells) (set_of cells)) && is_legal most n marks (z_of cells) (set_of cells)
+is_move most n marks cells =
+    same_cells cells (as_cells most (z_of cells) (set_of cells)) && is_legal most n marks (z_of cells) (set_of cells)

@@ -1,6 +1,7 @@
 -- Document 01, "Legal moves": the cells of a move, a log of moves, and move k of a log.
 -- `most` is the most that Y may have, `size` the cells of a move.
-use Rattle.std.specs.Prelude.{cond, List, [], ◌++◌, ◌∷◌, ◌≡◌, ◌*◌, ◌+◌, ◌-◌, ◌<◌, ◌≤◌, suc, zero, ℕ, leb, drop, get_or, length, replicate, take}
+use Rattle.std.specs.Prelude.{cond, List, [], ◌++◌, ◌∷◌, ◌≡◌, ◌*◌, ◌+◌, ◌-◌, ◌<◌, ◌≤◌, suc, zero, ℕ}
+use Rattle.std.specs.Prelude.{leb, drop, get_or, length, replicate, take}
 use Rattle.circuit.specs.Limits.{move_head}
 use Rattle.moves.specs.Move.{Legal, NoneBelow}
 

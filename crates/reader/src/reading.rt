@@ -20,8 +20,8 @@ pub struct ListRead {
     pub tcount: usize,
 }
 
-// The weights and rows of a list, and the number of its T and T dagger gates, which are those that add an odd phase. Each gate changes these
-// in place. Internal: the caller has found no fault.
+// The weights and rows of a list, and the number of its T and T dagger gates, which are those that add an odd phase. Each gate changes
+// these in place. Internal: the caller has found no fault.
 pub fn read_gates(n: usize, gates: &[u8]) -> ListRead
     requires { (n ≤ max_wires) × AllWellFormed n (gates_of gates.now) }
     ensures { ReadAll n gates.now result }

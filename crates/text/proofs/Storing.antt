@@ -43,7 +43,8 @@ module _ (t : List ℕ) (at : ℕ) where
   unfolding lines_decoded lines_of
   no_bytes h = rw (drop_of_length-le t h)
 
-  bytes_step : first_formed gate_digits (lines_of (drop at t)) ≡ true → bytes_from t at ≡ gate_decoded_at t at ++ bytes_from t (at + gate_line_bytes)
+  bytes_step : first_formed gate_digits (lines_of (drop at t)) ≡ true
+      → bytes_from t at ≡ gate_decoded_at t at ++ bytes_from t (at + gate_line_bytes)
   unfolding lines_decoded
   bytes_step e =
       ap lines_decoded (formed_lines t at gate_digits e)
@@ -84,7 +85,8 @@ module _ {t was left : List ℕ} {i at : ℕ} (s : StoredTo t was left i at) whe
           counted = omega (arith, s.counted, ap length (bytes_step t at formed));
           stored =
               ap (λ (l : List ℕ). sets l (gate_bytes * (i + 1)) (bytes_from t (at + gate_line_bytes))) e
-              ∙ sets_append left (gate_decoded_at t at) (bytes_from t (at + gate_line_bytes)) (gate_bytes * i) (gate_bytes * (i + 1)) (omega arith)
+              ∙ sets_append left (gate_decoded_at t at) (bytes_from t (at + gate_line_bytes)) (gate_bytes * i) (gate_bytes * (i + 1))
+              (omega arith)
               ∙ ap (sets left (gate_bytes * i)) (sym (bytes_step t at formed))
               ∙ s.stored;
         }

@@ -56,7 +56,8 @@ pub line_one_malformed : (t : List ℕ) → first_formed wires_digits (lines_of 
 line_one_malformed t e = read_faulty t malformed 1 (one_wrong t e)
 
 -- then the count, whatever comes after line one
-pub count_wrong : (n : ℕ) (rest : List ℕ) → n < byte_values → (n ≡ 0) ⊎ (max_wires < n) → read_text (wires_line n ++ rest) ≡ faulty wire_count 0
+pub count_wrong : (n : ℕ) (rest : List ℕ) → n < byte_values → (n ≡ 0) ⊎ (max_wires < n)
+    → read_text (wires_line n ++ rest) ≡ faulty wire_count 0
 count_wrong n rest h w =
     let e = sym (first_formed_lem wires_digits (wires_line n ++ rest)) ∙ wires_starts n rest in
     read_faulty (wires_line n ++ rest) wire_count 0
@@ -196,7 +197,8 @@ pub circuit_left : {t gates gates' : List ℕ} {n m : ℕ} → CircuitRead t gat
 circuit_left {gates' = gates'} {m = m} c = omega (arith, c.long, length-take (gate_bytes * m) gates')
 
 -- with room for every list, a refusal tells the fault of the text
-pub fault_said_lem : {t gates gates' : List ℕ} {r : TextReply} {number place : ℕ} → ReadText t gates gates' r → max_list_bytes ≤ length gates
+pub fault_said_lem : {t gates gates' : List ℕ} {r : TextReply} {number place : ℕ} → ReadText t gates gates' r
+    → max_list_bytes ≤ length gates
     → r ≡ Refused number place → read_text t ≡ faulty number place
 fault_said_lem {t} {gates} {gates'} {r} {number} {place} p room is = go (read_text t) refl
   where

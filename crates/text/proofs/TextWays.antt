@@ -47,7 +47,8 @@ module _ (t g : List ℕ) {found : Reply} (judged : found ≡ read_text_fault (l
     pub may_store : (max_list_bytes ≤ length g) × (fault_from t wires_line_bytes 0 ≡ Done)
     may_store = (short_pass (length g) max_list_bytes passed.0, gates_done t passed.1)
 
-    pub text_read : {n m : ℕ} {g' : List ℕ} → n ≡ byte_at t 0 → Stores g (bytes_from t wires_line_bytes) g' m → ReadText t g g' (ReadDone n m)
+    pub text_read : {n m : ℕ} {g' : List ℕ} → n ≡ byte_at t 0 → Stores g (bytes_from t wires_line_bytes) g' m
+        → ReadText t g g' (ReadDone n m)
     text_read {n} {m} {g'} h s =
         let r = ap (λ (f : ℕ). unless_refused (call_reply f) (read_text t)) passed.0 ∙ read_circuit t passed.1 in
         let k : m ≡ length (bytes_from t wires_line_bytes) / gate_bytes = omega (arith, s.counted) in

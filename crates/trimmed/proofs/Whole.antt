@@ -38,7 +38,8 @@ module _ (n : ℕ) (fit : n ≤ max_wires) (C : List Gate) (f_c : AllWellFormed 
   first = odd_set_is_sound parities n (weights_of n C) (read_sound max_wires n fit C f_c).weights
 
   pub marks_sound : SoundMarks parities n marks
-  marks_sound = replays_sound parities n max_members (limits_suffice n fit).0 (odd_set_of n C) (logged move_cells log k) marks first replayed
+  marks_sound =
+      replays_sound parities n max_members (limits_suffice n fit).0 (odd_set_of n C) (logged move_cells log k) marks first replayed
 
   -- moves and members left are no more than the members at first
   pub moves_afford : k + member_count marks ≤ member_count (odd_set_of n C)
@@ -80,7 +81,8 @@ module _ (n : ℕ) (fit : n ≤ max_wires) (C : List Gate) (f_c : AllWellFormed 
         → counts.moves ≡ k → counts.gates ≡ length D
         → Trimmed n C D log counts
     whole counts tin odd tout moves gates =
-        let made : Replays max_members n (odd_set_of n C) (logged move_cells log counts.moves) (odd_set_of n D) = rw (moves, odd_d) replayed in
+        let made : Replays max_members n (odd_set_of n C) (logged move_cells log counts.moves) (odd_set_of n D) = rw (moves, odd_d)
+        replayed in
         let last : NoneLegal max_members n (odd_set_of n D) = rw odd_d none in
         record {
           formed = f_d;

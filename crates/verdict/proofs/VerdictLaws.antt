@@ -27,7 +27,8 @@ use Rattle.verdict.specs.declared.Verdict.TheVariants.{First, Second}
 
 -- the first bytes of each text decide
 pub first_bytes_suffice : (t u was left : List ℕ) (v : Verdict)
-    → VerdictOn (read_text (take text_bytes t)) (read_text (take text_bytes u)) was left v → VerdictOn (read_text t) (read_text u) was left v
+    → VerdictOn (read_text (take text_bytes t)) (read_text (take text_bytes u)) was left v
+    → VerdictOn (read_text t) (read_text u) was left v
 first_bytes_suffice t u was left v d = rw (first_bytes_decide t, first_bytes_decide u) d
 
 -- ---- what the program writes: the bytes that are counted, from the start of those lent
@@ -155,11 +156,13 @@ module _ {t u : Text} {was left : List ℕ} {v : Verdict} (d : VerdictOn t u was
   -- `same` is written exactly where both texts are circuits without a fault, on the same wires, that act alike
   pub same_shown : (take (bytes_of v) left ≡ same_line) ↔ Circuits (λ n first second. SameAction n (gates_of first) (gates_of second)) t u
   same_shown =
-      shown_exactly Same (λ n first second. SameAction n (gates_of first) (gates_of second)) (λ n first second r c. same_exactly c) same_told
+      shown_exactly Same (λ n first second. SameAction n (gates_of first) (gates_of second)) (λ n first second r c. same_exactly c)
+      same_told
       (other_line [] same_line (omega arith)) (λ f i. other_line (refused_line f i) same_line (omega arith)) d room
 
   -- `differ` exactly where a basis state tells them apart
-  pub differ_shown : (take (bytes_of v) left ≡ differ_line) ↔ Circuits (λ n first second. ToldApart n (gates_of first) (gates_of second)) t u
+  pub differ_shown : (take (bytes_of v) left ≡ differ_line)
+      ↔ Circuits (λ n first second. ToldApart n (gates_of first) (gates_of second)) t u
   differ_shown =
       shown_exactly Differ (λ n first second. ToldApart n (gates_of first) (gates_of second)) (λ n first second r c. differ_exactly c)
       differ_told (other_line [] differ_line (omega arith)) (λ f i. other_line (refused_line f i) differ_line (omega arith)) d room

@@ -39,7 +39,8 @@ module _ (N n : ℕ) (fit : n ≤ N) (w : List ℕ) (sound : SoundWeights (2 ^ N
   -- ---- reading
 
   -- one parity more: nothing is written for weight 0, as at parity 0
-  next : (k v : ℕ) → k < 2 ^ n → weight w k ≡ v → (r : Reading) → Passed N n w k r → Passed N n w (suc k) (read_from (write_parity N n k v) r)
+  next : (k v : ℕ) → k < 2 ^ n → weight w k ≡ v → (r : Reading) → Passed N n w k r
+      → Passed N n w (suc k) (read_from (write_parity N n k v) r)
   unfolding write_parity read_from
   next k zero l e r h =
       record { long = h.long; below = λ p lp. at p lp (ℕ_discrete p k); above = λ p lp. h.above p (omega arith); else = h.else }

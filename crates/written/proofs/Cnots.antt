@@ -35,7 +35,8 @@ into_one t k m rows h ne =
     let v : ℕ = bit_xor (get_or rows t 0) (combine m rows) in
     set-set rows t v (bit_xor (get_or (set rows t v) t 0) (get_or (set rows t v) k 0))
     ∙ ap (set rows t)
-    (ap₂ bit_xor (get_or-set_same rows t v 0 h) (get_or-set_other rows t k v 0 ne) ∙ xor_assoc (get_or rows t 0) (combine m rows) (get_or rows k 0))
+    (ap₂ bit_xor (get_or-set_same rows t v 0 h) (get_or-set_other rows t k v 0 ne)
+    ∙ xor_assoc (get_or rows t 0) (combine m rows) (get_or rows k 0))
 
 -- a wire of q is not t
 apart : (q t k : ℕ) → bit q t ≡ 0 → bit q k ≡ 1 → k ≢ t

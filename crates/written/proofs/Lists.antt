@@ -20,7 +20,8 @@ kinds_append p [] ys r = refl
 kinds_append p (gate kind a b ∷ xs) ys r =
     let here : List ℕ = kind_here (kind_of kind) (eqb (row r a) p) kind in
     let r' : Reading = read_gate (gate kind a b) r in
-    ap (λ (ks : List ℕ). here ++ ks) (kinds_append p xs ys r') ∙ sym (append_assoc here (kinds_at p xs r') (kinds_at p ys (read_from xs r')))
+    ap (λ (ks : List ℕ). here ++ ks) (kinds_append p xs ys r')
+    ∙ sym (append_assoc here (kinds_at p xs r') (kinds_at p ys (read_from xs r')))
 
 -- what stands together in a list does so in a longer one
 pub together_first : {p v : ℕ} {xs : List Gate} {r : Reading} → Together p v xs r → (ys : List Gate) → Together p v (xs ++ ys) r

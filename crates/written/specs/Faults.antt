@@ -44,4 +44,5 @@ rows_fault N n rows = either (eqb (length rows) N) (or_else (beyond_fault n 0 ro
 
 -- 1, 8, 6, then 7, by the weights, the rows and the length of the gates lent
 unfoldable pub write_fault : ℕ → List ℕ → List ℕ → ℕ → ℕ
-write_fault n weights rows gates = or_else (call_fault n (short_fault gates write_bytes) (weights_fault n weights)) (rows_fault row_cells n rows)
+write_fault n weights rows gates =
+    or_else (call_fault n (short_fault gates write_bytes) (weights_fault n weights)) (rows_fault row_cells n rows)

@@ -52,7 +52,8 @@ returns c =
     let s : Entry = search in
     let b = slot.leading-s.ensures in
     rw at.loop-left.invariant.0
-    (grown s.requires.0 (off s.requires.0 b empty.if-filled-s-eq0.true) (stopped s.requires.0 b empty.if-filled-s-eq0.true at.loop-left.invariant.2.1))
+    (grown s.requires.0 (off s.requires.0 b empty.if-filled-s-eq0.true)
+    (stopped s.requires.0 b empty.if-filled-s-eq0.true at.loop-left.invariant.2.1))
 
 mul_left : tie.Need-offset_bounds-vec-s-in-loop-left invariant-loop decreases-loop
 mul_left c = let slot : Slot = search in record { fits = omega (arith, slot.leading-s.ensures.slot) }
@@ -77,7 +78,8 @@ loop-again c =
     let less = masked_falls s.requires.0 slot.leading-s.ensures filled.if-filled-s-eq0.false in (
       at.loop-left.invariant.0,
       rw at.loop-left.invariant.0 (omega (arith, less)),
-      rw at.loop-left.invariant.0 (_, masked_takes s.requires.0 slot.leading-s.ensures filled.if-filled-s-eq0.false at.loop-left.invariant.2.1),
+      rw at.loop-left.invariant.0
+          (_, masked_takes s.requires.0 slot.leading-s.ensures filled.if-filled-s-eq0.false at.loop-left.invariant.2.1),
     )
 
 returns-2 : tie.Need-returns invariant-loop decreases-loop

@@ -16,7 +16,8 @@ by_members-requires c =
 
 pub write_move-got-requires-clause-marks_len : goal.write_move-got-requires-clause-marks_len
 write_move-got-requires-clause-marks_len c =
-    let t = rw c.in-Dependent.is at c.insert.ensures in (c.requires.marks_len.0, xor_lt max_wires c.args.a c.args.b c.requires.marks_len.1 c.requires.marks_len.2, c.requires.marks_len.1)
+    let t = rw c.in-Dependent.is at c.insert.ensures in
+    (c.requires.marks_len.0, xor_lt max_wires c.args.a c.args.b c.requires.marks_len.1 c.requires.marks_len.2, c.requires.marks_len.1)
 
 pub write_move-got-requires-clause-slot_members : goal.write_move-got-requires-clause-slot_members
 write_move-got-requires-clause-slot_members c =

@@ -38,7 +38,8 @@ search-by-requires c κs =
     (t.products-table.ensures, (still_marked at.loop-cells.invariant.0, at.loop-cells.invariant.1))
 
 same_length : tie.Need-shape_of-marks-in-Nothing invariant-loop decreases-loop
-same_length c = let at : Head = search in (still_marked at.loop-cells.invariant.0).sound.long ∙ sym at.loop-cells.invariant.0.first.sound.long
+same_length c =
+    let at : Head = search in (still_marked at.loop-cells.invariant.0).sound.long ∙ sym at.loop-cells.invariant.0.first.sound.long
 
 same-length-2 : tie.Need-shape_of-log-in-Nothing invariant-loop decreases-loop
 same-length-2 c = let at : Head = search in at.loop-cells.invariant.0.made.kept.long

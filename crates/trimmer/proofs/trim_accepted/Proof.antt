@@ -39,7 +39,8 @@ put-new-weights-requires c κs =
     let m : tie.After-make_moves-moves = search in
     let o : tie.After-put_odd_set = search in
     let t : tie.After-read_gates-t = search in
-    let last = marked_last (record { marked = record { read = is_read t; odd = o.put_odd_set.ensures }; all = m.make_moves-moves.ensures }) in
+    let last = marked_last
+    (record { marked = record { read = is_read t; odd = o.put_odd_set.ensures }; all = m.make_moves-moves.ensures }) in
     (last.few, sound_weights (is_read t), last.sound, refl)
 
 slice-aggregate-write-sound-2 : tie.Need-slice_bounds-write_sound-end-2

@@ -12,5 +12,7 @@ overflow_cast-result-2 c = search (rules, trailing_le 64 c.args.p)
 
 pub returns : goal.returns
 returns c =
-    let p = c.args.p in
-    (trailing_in 64 max_wires p (omega arith) c.requires.0 c.requires.1, (lowest_set 64 max_wires p (omega arith) c.requires.0 c.requires.1).0)
+    let p = c.args.p in (
+      trailing_in 64 max_wires p (omega arith) c.requires.0 c.requires.1,
+      (lowest_set 64 max_wires p (omega arith) c.requires.0 c.requires.1).0,
+    )

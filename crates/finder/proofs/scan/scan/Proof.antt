@@ -25,14 +25,16 @@ invariant-loop n products marks ys cells₀ most room half vec₀ by₀ member�
     (best ≡ Nothing) × (cells ≡ cells₀) × (i ≤ m) × AskedBefore marks ys z t i filled vec by member
 
 abbrev decreases-loop : tie.decreases-loop-i
-decreases-loop n products marks ys cells₀ most room half vec₀ by₀ member₀ best₀ k z t m filled₀ i₀ k-end cells vec by member best filled i = m - i
+decreases-loop n products marks ys cells₀ most room half vec₀ by₀ member₀ best₀ k z t m filled₀ i₀ k-end cells vec by member best filled i =
+    m - i
 
 abbrev invariant-search : tie.invariant-search
 invariant-search n products marks ys cells₀ most room₀ half₀ vec₀ by₀ member₀ best₀ k₀ k-end cells room half vec by member best k =
     (best ≡ Nothing) × (cells ≡ cells₀) × ScannedTo marks ys k half.apart half.filled room vec by member
 
 abbrev decreases-search : tie.decreases-search
-decreases-search n products marks ys cells₀ most room₀ half₀ vec₀ by₀ member₀ best₀ k₀ k-end cells room half vec by member best k = k-end - k
+decreases-search n products marks ys cells₀ most room₀ half₀ vec₀ by₀ member₀ best₀ k₀ k-end cells room half vec by member best k =
+    k-end - k
 
 -- the loop over the turns, the loop over z, and the entry
 abbrev Inner : Type 0

@@ -44,7 +44,8 @@ loop-again c =
     let y : tie.After-cell_at-y invariant-loop decreases-loop = search in
     let at : Head = search in
     let s : Entry = search in
-    naming_turn at.loop-s.invariant s.requires.0 (omega arith) y.cell_at-y.ensures flipped.flip_mark.ensures next.next_slot-s-in-loop-s.ensures
+    naming_turn at.loop-s.invariant s.requires.0 (omega arith) y.cell_at-y.ensures flipped.flip_mark.ensures
+    next.next_slot-s-in-loop-s.ensures
 
 flip-mark-requires-2 : tie.Need-flip_mark-requires-2 invariant-loop decreases-loop
 flip-mark-requires-2 c κs =

@@ -47,8 +47,12 @@ slice-write-s c = let at : Head = search in omega (arith, at.loop-p.invariant.2.
 
 loop-again : tie.Need-loop-p-preserved invariant-loop decreases-loop
 loop-again c =
-    let at : Head = search in
-    (search rules, search rules, added_next _ at.loop-p.invariant.2 at.loop-p.invariant.0 (omega (arith, at.loop-p.invariant.2.as_long)) refl)
+    let at : Head = search in (
+      search rules,
+      search rules,
+      added_next _ at.loop-p.invariant.2 at.loop-p.invariant.0 (omega (arith, at.loop-p.invariant.2.as_long))
+          refl,
+    )
 
 same_length : tie.Need-shape_of-s invariant-loop decreases-loop
 same_length c = let at : Head = search in at.loop-p.invariant.2.as_long

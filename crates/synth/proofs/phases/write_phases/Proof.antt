@@ -13,7 +13,8 @@ use Rattle.synth.proofs.phases.write_phases.Statement.{statement}
 use Rattle.synth.proofs.phases.write_phases.Tie as tie
 
 abbrev invariant-loop : tie.invariant-loop-p
-invariant-loop gates₀ n weights k₀ p₀ p-end gates k p = (p ≤ p-end) × (p-end ≡ 2 ^ n) × Stored gates₀ gates 0 k (write_phases max_wires n weights p)
+invariant-loop gates₀ n weights k₀ p₀ p-end gates k p =
+    (p ≤ p-end) × (p-end ≡ 2 ^ n) × Stored gates₀ gates 0 k (write_phases max_wires n weights p)
 
 abbrev decreases-loop : tie.decreases-loop-p
 decreases-loop gates₀ n weights k₀ p₀ p-end gates k p = p-end - p
