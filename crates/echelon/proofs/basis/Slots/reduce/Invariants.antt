@@ -2,10 +2,10 @@
 use Prim.Native.Nat.{◌<◌, ◌^◌}
 use Rattle.circuit.specs.Limits.{product_bits}
 use Rattle.gf2.specs.Echelon.{Reached, held}
-use Rattle.echelon.proofs.reduce.Given as goal
+use Rattle.echelon.proofs.basis.Slots.reduce.Given as goal
 
 abbrev pub invariant-loop-left : goal.invariant-loop-left
-invariant-loop-left l = (l.left < 2 ^ product_bits) × Reached (held l.filled l.vec) l.v l.left l.used
+invariant-loop-left l = (l.left < 2 ^ product_bits) × Reached (held l.self.filled l.self.vec) l.v l.left l.used
 
 abbrev pub decreases-loop-left : goal.decreases-loop-left
 decreases-loop-left l = l.left
