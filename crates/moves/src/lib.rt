@@ -8,7 +8,7 @@ pub mod marks;
 pub mod partner;
 
 // Whether a search has found a legal move.
-#[derive(Drop)]
+#[derive(Clone, Copy, Debug, PartialEq, Eq)]
 pub enum Sought {
     // It has: the cells lent hold the move.
     Found,

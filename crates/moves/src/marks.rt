@@ -1,22 +1,21 @@
 // One mark of an odd set: looked at, and flipped where it is lent. Internal: the caller names a parity.
-ghost use Rattle.std.specs.Prelude.{◌≡◌, ◌<◌, length};
-ghost use Rattle.circuit.specs.Limits.{parities, table_bytes};
+ghost use Rattle.std.specs.Prelude.{◌≡◌, ◌<◌};
+ghost use Rattle.circuit.specs.Limits.{parities};
 ghost use Rattle.circuit.specs.Sound.{weight};
 ghost use Rattle.moves.specs.CarryOut.{flip};
 
-use circuit::limits::{Mark, Parity};
+use circuit::limits::{Mark, Parity, TABLE_BYTES};
 use circuit::parity::index_of;
 
-pub fn mark_at(marks: &[Mark], p: Parity) -> Mark
-    requires { (length marks.now ≡ table_bytes) × (p < parities) }
+pub fn mark_at(marks: &[Mark; TABLE_BYTES], p: Parity) -> Mark
+    requires { p < parities }
     ensures { result ≡ weight marks.now p }
 {
-    let i = index_of(p);
-    marks[i]
+    marks[index_of(p)]
 }
 
-pub fn flip_mark(marks: &mut [Mark], p: Parity)
-    requires { (length marks.old ≡ table_bytes) × (p < parities) }
+pub fn flip_mark(marks: &mut [Mark; TABLE_BYTES], p: Parity)
+    requires { p < parities }
     ensures { marks.new ≡ flip marks.old p }
 {
     let i = index_of(p);
