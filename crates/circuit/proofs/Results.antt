@@ -1,0 +1,21 @@
+-- What the results of the code say in document 01's numbers, by cases.
+use mathlib.Core.Logic.{◌≢◌}
+use native.Mathlib.Omega.{arith}
+use Rattle.circuit.specs.Told.{number}
+use Rattle.circuit.specs.declared.faults.Fault.{Fault}
+use Rattle.circuit.specs.declared.faults.Fault.TheVariants.{BadMove, GateKind, GateWire, LentOutput, ListLength, Malformed, RowRule, SameWire}
+use Rattle.circuit.specs.declared.faults.Fault.TheVariants.{SecondList, TableRule, WireCount}
+
+-- every fault has a number
+pub numbered : (f : Fault) → number f ≢ 0
+numbered WireCount = omega arith
+numbered ListLength = omega arith
+numbered GateKind = omega arith
+numbered GateWire = omega arith
+numbered SameWire = omega arith
+numbered TableRule = omega arith
+numbered RowRule = omega arith
+numbered LentOutput = omega arith
+numbered Malformed = omega arith
+numbered BadMove = omega arith
+numbered SecondList = omega arith
