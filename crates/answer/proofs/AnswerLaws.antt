@@ -18,7 +18,7 @@ use Rattle.circuit.specs.Lent.{KeptFrom}
 use Rattle.circuit.specs.Limits.{max_gates, max_wires, max_written_gates}
 use Rattle.circuit.specs.Replies.{number_of, place_of}
 use Rattle.circuit.specs.Replies.{Reply}
-use Rattle.circuit.specs.Replies.TheVariants as reply
+use Rattle.circuit.specs.Replies as reply
 use Rattle.circuit.specs.Gate.{Kind}
 use Rattle.circuit.specs.Gate.{Cnot, Phase, Unknown}
 use Rattle.written.proofs.Laws.{rack_runs_wrote}

@@ -4,7 +4,7 @@ use Rattle.circuit.specs.Faults.{list_reply, second_list}
 use Rattle.circuit.specs.Gate.{gates_of}
 use Rattle.circuit.specs.Run.{SameAction, ToldApart}
 use Rattle.circuit.specs.Replies.{Reply}
-use Rattle.circuit.specs.Replies.TheVariants as replies
+use Rattle.circuit.specs.Replies as replies
 use Rattle.compare.specs.declared.Compared.{Compared}
 use Rattle.compare.specs.declared.Compared.TheVariants.{Differ, Refused, Same}
 

@@ -4,7 +4,7 @@ use Rattle.circuit.specs.Faults.{call_reply, refuse, short_fault}
 use Rattle.circuit.specs.Limits.{gate_bytes, max_list_bytes}
 use Rattle.circuit.specs.Lent.{placed}
 use Rattle.circuit.specs.Replies.{Reply}
-use Rattle.circuit.specs.Replies.TheVariants as reply
+use Rattle.circuit.specs.Replies as reply
 use Rattle.text.specs.Lines.{lines_of}
 use Rattle.text.specs.Text.{Text, circuit, faulty, lines_fault, read_text, unless_refused}
 use Rattle.text.specs.declared.TextReply.{TextReply}
