@@ -1,23 +1,28 @@
 -- One law for each way out of the entry `read_text`, by what its judge found: the reply, and the lent gates as it says.
 use mathlib.Core.List.{List}
 use mathlib.Core.Path.{◌∙◌, ◌≡◌, ap, ap₂, refl, sym}
-use Prim.Native.Nat.{◌+◌, ◌/◌, ◌<◌, ◌≤◌, suc, zero, ℕ}
+use Prim.Native.Nat.{◌-◌, ◌/◌, ◌<◌, ◌≤◌, suc, zero, ℕ}
 use native.Mathlib.Omega.{arith}
-use lib.ListN.{length}
+use lib.ListN.{drop, length, take}
+use Rattle.std.proofs.lemmas.List.{take_rest}
 use Rattle.circuit.proofs.Judging.{refuse_done, refused_not_done, short_pass}
 use Rattle.circuit.specs.Faults.{call_reply, refuse, short_fault}
 use Rattle.circuit.specs.Limits.{gate_bytes, max_list_bytes}
 use Rattle.circuit.specs.declared.Reply.{Reply}
 use Rattle.circuit.specs.declared.Reply.TheVariants.{Done, Refused}
 use Rattle.text.proofs.Storing.{bytes_from}
-use Rattle.text.proofs.TextFaults.{fault_from, gates_done, one_formed_done, one_long, read_circuit}
+use Rattle.text.proofs.TextFaults.{gates_done, one_formed_done, one_long, read_circuit}
 use Rattle.text.specs.Entry.{ReadText, count_of, fault_said, gates_said, read_into, read_text_fault, told, wires_of, wires_said}
-use Rattle.text.specs.Limits.{wires_line_bytes}
-use Rattle.text.specs.Lines.{byte_at, lines_of}
+use Rattle.text.specs.Limits.{wires_digits, wires_line_bytes}
+use Rattle.text.specs.Lines.{byte_at, lines_decoded, lines_of}
 use Rattle.text.specs.Placed.{Stores}
-use Rattle.text.specs.Text.{Text, circuit, faulty, lines_fault, lines_say, read_text, unless_refused}
+use Rattle.text.specs.Text.{Text, circuit, faulty, gates_fault, lines_fault, lines_say, read_text, unless_refused}
 use Rattle.text.specs.declared.TextReply.{TextReply}
 use Rattle.text.specs.declared.TextReply.TheVariants.{Done as ReadDone, Refused as ReadRefused}
+
+-- the gate lines as the code cuts them off
+abbrev gate_lines_in : List ℕ → List ℕ
+gate_lines_in t = take (length t - wires_line_bytes) (drop wires_line_bytes t)
 
 -- a text refused for the fault of the call, else for its own, is refused for the first of them
 joined : (f : ℕ) (found : Reply) (x : Text) → unless_refused (call_reply f) (unless_refused found x) ≡ unless_refused (refuse f 0 found) x
@@ -41,15 +46,17 @@ module _ (t g : List ℕ) {found : Reply} (judged : found ≡ read_text_fault (l
     passed = refuse_done (short_fault (length g) max_list_bytes) 0 (lines_fault (lines_of t)) (sym judged ∙ e)
 
     -- what reading n and storing ask
-    pub one_there : 0 + 1 < length t
-    one_there = omega (arith, one_long t (one_formed_done t passed.1))
+    pub one_there : wires_digits < length t
+    one_there = one_long t (one_formed_done t passed.1)
 
-    pub may_store : (max_list_bytes ≤ length g) × (fault_from t wires_line_bytes 0 ≡ Done)
-    may_store = (short_pass (length g) max_list_bytes passed.0, gates_done t passed.1)
+    pub may_store : (max_list_bytes ≤ length g) × (gates_fault 0 (lines_of (gate_lines_in t)) ≡ Done)
+    may_store =
+        (short_pass (length g) max_list_bytes passed.0, rw (take_rest t wires_line_bytes) (gates_done t passed.1))
 
-    pub text_read : {n m : ℕ} {g' : List ℕ} → n ≡ byte_at t 0 → Stores g (bytes_from t wires_line_bytes) g' m
+    pub text_read : {n m : ℕ} {g' : List ℕ} → n ≡ byte_at t 0 → Stores g (lines_decoded (lines_of (gate_lines_in t))) g' m
         → ReadText t g g' (ReadDone n m)
-    text_read {n} {m} {g'} h s =
+    text_read {n} {m} {g'} h stores =
+        let s = rw (take_rest t wires_line_bytes) at stores in
         let r = ap (λ (f : ℕ). unless_refused (call_reply f) (read_text t)) passed.0 ∙ read_circuit t passed.1 in
         let k : m ≡ length (bytes_from t wires_line_bytes) / gate_bytes = omega (arith, s.counted) in
         record { reply = rw r; wires = rw (r, h); count = rw (r, k); gates_left = rw r s.stored }

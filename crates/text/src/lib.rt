@@ -10,7 +10,8 @@ pub mod limits;
 pub mod reading;
 
 use circuit::Reply;
-use reading::{byte_at, read_text_fault, store_gates};
+use limits::WIRES_LINE_BYTES;
+use reading::{pair, read_text_fault, store_gates};
 
 // The wire count and the number of gates, or document 01's number and place of the fault.
 #[derive(Drop)]
@@ -20,17 +21,15 @@ pub enum TextReply {
 }
 
 // Reads a text into its gates' bytes, from the start of what is lent. A refusal leaves all as it was.
+#[tactic(auto, using(crate::proofs::TextWays::one_there))]
 pub fn read_text(text: &[u8], gates: &mut [u8]) -> TextReply
     ensures { ReadText text.now gates.old gates.new result }
 {
     let found = read_text_fault(text, gates.len());
     if let Reply::Refused { number, place } = found {
-        return TextReply::Refused {
-            number: number,
-            place: place,
-        };
+        return TextReply::Refused { number, place };
     }
-    let n = byte_at(text, 0) as usize;
-    let m = store_gates(text, gates);
-    TextReply::Done { n: n, gates: m }
+    let n = usize::from(pair(text[0], text[1]));
+    let m = store_gates(&text[WIRES_LINE_BYTES..], gates);
+    TextReply::Done { n, gates: m }
 }
