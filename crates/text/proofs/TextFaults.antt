@@ -14,8 +14,7 @@ use Rattle.std.proofs.lemmas.List.{nil_from_length}
 use Rattle.circuit.proofs.Judging.{refuse_done, refused, wires_well}
 use Rattle.circuit.specs.Faults.{list_length, malformed, refuse, wire_count, wires_fault}
 use Rattle.circuit.specs.Limits.{max_gates, max_wires}
-use Rattle.circuit.specs.declared.Reply.{Reply}
-use Rattle.circuit.specs.declared.Reply.TheVariants.{Done, Refused}
+use Rattle.circuit.specs.Replies.{Done, Refused, Reply}
 use Rattle.text.proofs.LineForms.{formed_lines, formed_long, formed_take, some_line}
 use Rattle.text.specs.Limits.{gate_digits, gate_line_bytes, wires_digits, wires_line_bytes}
 use Rattle.text.specs.Lines.{Line, byte_at, decoded, ended, first_formed, formed, lines_decoded, lines_of}

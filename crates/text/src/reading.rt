@@ -1,73 +1,59 @@
 // A text judged line by line, and its gates stored (document 01, "Text form").
 ghost use Rattle.std.specs.Prelude.{◌≡◌, ◌≤◌, drop, length};
 ghost use Rattle.circuit.specs.Limits.{max_list_bytes};
-ghost use Rattle.circuit.specs.declared.Reply.TheVariants.{Done};
+ghost use Rattle.circuit.specs.Replies.{Done};
+ghost use Rattle.circuit.specs.Told.{told};
 ghost use Rattle.text.specs.Entry.{read_text_fault};
-ghost use Rattle.text.specs.Limits.{wires_line_bytes};
 ghost use Rattle.text.specs.Lines.{first_formed, gate_decoded_at, lines_decoded, lines_of, pair};
 ghost use Rattle.text.specs.Placed.{Stores};
 ghost use Rattle.text.specs.Text.{gates_fault, lines_fault};
 
 use crate::hex::{NEWLINE, is_digit, value_of};
 use crate::limits::{GATE_DIGITS, GATE_LINE_BYTES, WIRES_DIGITS, WIRES_LINE_BYTES};
-use circuit::Reply;
+use circuit::faults::{Fault, Refusal};
+use circuit::gates::Gate;
 use circuit::limits::{GATE_BYTES, MAX_GATES, MAX_LIST_BYTES};
-use judges::faults::{LIST_LENGTH, MALFORMED, short_fault, wires_fault};
+use judges::faults::{check_room, check_wires};
 
 // The first fault of a call: 8 by the length of the gates lent, then that of the text.
-pub fn read_text_fault(text: &[u8], lent: usize) -> Reply
-    ensures { result ≡ read_text_fault lent text.now }
+pub fn check_text(text: &[u8], lent: usize) -> Result<(), Refusal>
+    ensures { told result ≡ read_text_fault lent text.now }
 {
-    let fault = short_fault(lent, MAX_LIST_BYTES);
-    if fault != 0 {
-        return Reply::Refused {
-            number: fault,
-            place: 0,
-        };
-    }
-    text_fault(text)
+    check_room(lent, MAX_LIST_BYTES)?;
+    check_lines(text)
 }
 
 // The first fault of a text: of line one its form, then the count; then the gate lines.
 #[tactic(auto, using(crate::proofs::TextFaults::one_long))]
-fn text_fault(text: &[u8]) -> Reply
-    ensures { result ≡ lines_fault (lines_of text.now) }
+fn check_lines(text: &[u8]) -> Result<(), Refusal>
+    ensures { told result ≡ lines_fault (lines_of text.now) }
 {
     if !line_formed(text, WIRES_DIGITS) {
-        return Reply::Refused {
-            number: MALFORMED,
+        return Err(Refusal {
+            fault: Fault::Malformed,
             place: 1,
-        };
+        });
     }
-    let fault = wires_fault(usize::from(pair(text[0], text[1])));
-    if fault != 0 {
-        return Reply::Refused {
-            number: fault,
-            place: 0,
-        };
-    }
-    gates_fault(&text[WIRES_LINE_BYTES..])
+    check_wires(usize::from(pair(text[0], text[1])))?;
+    check_gate_lines(&text[WIRES_LINE_BYTES..])
 }
 
 // The gate lines in order. Gate line i, counted from 0, is line i + 2 of the text.
-fn gates_fault(lines: &[u8]) -> Reply
-    ensures { result ≡ gates_fault 0 (lines_of lines.now) }
+fn check_gate_lines(lines: &[u8]) -> Result<(), Refusal>
+    ensures { told result ≡ gates_fault 0 (lines_of lines.now) }
 {
     for (i, line) in lines.chunks(GATE_LINE_BYTES).enumerate() {
         if i == MAX_GATES {
-            return Reply::Refused {
-                number: LIST_LENGTH,
-                place: 0,
-            };
+            return Err(Refusal::from(Fault::ListLength));
         }
         if !line_formed(line, GATE_DIGITS) {
-            return Reply::Refused {
-                number: MALFORMED,
+            return Err(Refusal {
+                fault: Fault::Malformed,
                 place: i + 2,
-            };
+            });
         }
     }
-    Reply::Done
+    Ok(())
 }
 
 // Whether the first line is that many digits and a newline.
@@ -90,8 +76,8 @@ pub fn store_gates(lines: &[u8], gates: &mut [u8]) -> usize
     lines.len()
 }
 
-// The bytes of a gate by its line.
-fn gate_of(line: &[u8; GATE_LINE_BYTES]) -> [u8; GATE_BYTES]
+// The gate that a line stands for.
+fn gate_of(line: &[u8; GATE_LINE_BYTES]) -> Gate
     ensures { result ≡ gate_decoded_at line.now 0 }
 {
     let &[k, l, a, b, c, d, _] = line;
