@@ -3,23 +3,25 @@
 #![tactic(auto)]
 
 ghost use Rattle.std.specs.Prelude.{◌≡◌, ◌*◌, ◌/◌, ◌≤◌, length};
-ghost use Rattle.circuit.specs.Gate.{gate, gates_of};
+ghost use Rattle.circuit.specs.Gate.{gate_of, gates_of};
 ghost use Rattle.circuit.specs.Limits.{gate_bytes};
+ghost use Rattle.circuit.specs.Told.{number};
 ghost use Rattle.text.specs.Limits.{gate_line_bytes, refused_line_bytes};
 ghost use Rattle.text.specs.Written.{counts_line, gate_line, gate_lines, refused_line, wires_line};
 ghost use Rattle.lines.specs.Placed.{Writes};
 
-use circuit::limits::GATE_BYTES;
+use circuit::faults::Refusal;
+use circuit::gates::{Gate, gates};
 use text::hex::{NEWLINE, four_digits, two_digits};
 use text::limits::{COUNTS_LINE_BYTES, GATE_LINE_BYTES, REFUSED_LINE_BYTES, WIRES_LINE_BYTES};
 
 // A fault: `refused `, the number in two digits, a space and the place in four.
-pub fn refused_line(fault: u8, place: usize) -> [u8; REFUSED_LINE_BYTES]
-    ensures { result ≡ refused_line fault place }
+pub fn refused_line(refusal: Refusal) -> [u8; REFUSED_LINE_BYTES]
+    ensures { result ≡ refused_line (number refusal.fault) refusal.place }
 {
     let mut line = *b"refused 00 0000\n";
-    line[8..10].copy_from_slice(&two_digits(usize::from(fault)));
-    line[11..15].copy_from_slice(&four_digits(place));
+    line[8..10].copy_from_slice(&two_digits(usize::from(refusal.fault.number())));
+    line[11..15].copy_from_slice(&four_digits(refusal.place));
     line
 }
 
@@ -44,34 +46,35 @@ pub fn counts_line(tin: usize, odd: usize, tout: usize, moves: usize) -> [u8; CO
 }
 
 // A gate in six digits.
-fn gate_line(kind: u8, a: u8, b: u8) -> [u8; GATE_LINE_BYTES]
-    ensures { result ≡ gate_line (gate kind a b) }
+fn gate_line(gate: Gate) -> [u8; GATE_LINE_BYTES]
+    ensures { result ≡ gate_line (gate_of gate) }
 {
+    let [kind, a, b] = gate;
     let [c, d] = two_digits(usize::from(kind));
     let [e, f] = two_digits(usize::from(a));
     let [g, h] = two_digits(usize::from(b));
     [c, d, e, f, g, h, NEWLINE]
 }
 
-// The gates one after the other; gives how many bytes they take.
-pub fn put_gates(gates: &[u8], out: &mut [u8]) -> usize
-    requires { gate_line_bytes * (length gates.now / gate_bytes) ≤ length out.old }
-    ensures { Writes out.old 0 (gate_lines (gates_of gates.now)) out.new result }
+// The gates of a list one after the other; gives how many bytes they take.
+pub fn put_gates(list: &[u8], out: &mut [u8]) -> usize
+    requires { gate_line_bytes * (length list.now / gate_bytes) ≤ length out.old }
+    ensures { Writes out.old 0 (gate_lines (gates_of list.now)) out.new result }
 {
-    let (gates, _) = gates.as_chunks::<GATE_BYTES>();
-    for (i, &[kind, a, b]) in gates.iter().enumerate() {
+    let gates = gates(list);
+    for (i, &gate) in gates.iter().enumerate() {
         let at = GATE_LINE_BYTES * i;
-        out[at..at + GATE_LINE_BYTES].copy_from_slice(&gate_line(kind, a, b));
+        out[at..at + GATE_LINE_BYTES].copy_from_slice(&gate_line(gate));
     }
     GATE_LINE_BYTES * gates.len()
 }
 
-// The line of a fault; gives how many bytes it has.
-pub fn put_refused(fault: u8, place: usize, out: &mut [u8]) -> usize
+// The line of a refusal; gives how many bytes it has.
+pub fn put_refused(refusal: Refusal, out: &mut [u8]) -> usize
     requires { refused_line_bytes ≤ length out.old }
-    ensures { Writes out.old 0 (refused_line fault place) out.new result }
+    ensures { Writes out.old 0 (refused_line (number refusal.fault) refusal.place) out.new result }
 {
-    put(&refused_line(fault, place), out)
+    put(&refused_line(refusal), out)
 }
 
 // Bytes as they are; gives their number.

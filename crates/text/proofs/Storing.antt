@@ -63,14 +63,14 @@ pub part_placed : (was part these : List ℕ) (at end : ℕ) → part ≡ these 
 part_placed was part these at end is e =
     rw (is, Post-is at end was (omega arith), e) (sym (append_assoc (take at was) these _))
 
-pub chunk_at : (n k i : ℕ) (t : List ℕ) → i < k → get_or (first_chunks n k t) i [] ≡ take n (drop (n * i) t)
+chunk_at : (n k i : ℕ) (t : List ℕ) → i < k → get_or (first_chunks n k t) i [] ≡ take n (drop (n * i) t)
 chunk_at n zero i t h = absurd (omega arith)
 chunk_at n (suc k) zero t h = rw (mul-zero n) refl
 chunk_at n (suc k) (suc i) t h =
     let e : n + n * i ≡ n * suc i = omega arith in
     chunk_at n k i (drop n t) (omega arith) ∙ ap (take n) (drop-drop (n * i) n t ∙ ap (λ (m : ℕ). drop m t) e)
 
-pub byte_of_chunk : (t : List ℕ) (n p j : ℕ) → j < n → get_or (take n (drop p t)) j 0 ≡ get_or t (p + j) 0
+byte_of_chunk : (t : List ℕ) (n p j : ℕ) → j < n → get_or (take n (drop p t)) j 0 ≡ get_or t (p + j) 0
 byte_of_chunk t n p j h = get_or-take n (drop p t) j 0 h ∙ get_or-drop p t j 0
 
 gate_of_chunk : (t line : List ℕ) (p : ℕ) → line ≡ take gate_line_bytes (drop p t) → gate_decoded_at line 0 ≡ gate_decoded_at t p

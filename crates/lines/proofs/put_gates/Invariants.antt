@@ -3,4 +3,4 @@ use Rattle.lines.proofs.Writing.{PutTo}
 use Rattle.lines.proofs.put_gates.Given as goal
 
 abbrev pub invariant-loop-i : goal.invariant-loop-i
-invariant-loop-i l = PutTo l.fn.gates l.initial.out l.out l.i
+invariant-loop-i l = PutTo l.gates l.initial.out l.out l.i
