@@ -1,120 +1,87 @@
-// The lines that the programs write (document 01, "Text form"). Each function writes into a lent output from a place on and gives
-// back the place after what it wrote. Internal: the caller lends room enough.
+// The lines that the programs write (document 01, "Text form"), each as an array; and lines written from the start of a lent output.
+// Internal: the caller lends room enough.
 #![tactic(auto)]
 
-ghost use Rattle.std.specs.Prelude.{[], ◌∷◌, ◌+◌, ◌*◌, ◌/◌, ◌<◌, ◌≤◌, length};
-ghost use Rattle.circuit.specs.Gate.{gate, gates_of};
+ghost use Rattle.std.specs.Prelude.{◌≡◌, ◌*◌, ◌/◌, ◌≤◌, length};
+ghost use Rattle.circuit.specs.Gate.{gate_of, gates_of};
 ghost use Rattle.circuit.specs.Limits.{gate_bytes};
-ghost use Rattle.text.specs.Hex.{hex2};
-ghost use Rattle.text.specs.Limits.{counts_line_bytes, gate_line_bytes, refused_line_bytes, wires_line_bytes};
-ghost use Rattle.text.specs.Written.{counts_line, gate_line, gate_lines, number, refused_line, wires_line};
+ghost use Rattle.circuit.specs.Told.{number};
+ghost use Rattle.text.specs.Limits.{gate_line_bytes, refused_line_bytes};
+ghost use Rattle.text.specs.Written.{counts_line, gate_line, gate_lines, refused_line, wires_line};
 ghost use Rattle.lines.specs.Placed.{Writes};
 
-use circuit::copying::copy_bytes;
-use circuit::gates::gate_at;
-use circuit::limits::GATE_BYTES;
-use text::hex::{NEWLINE, SPACE, last_digit};
-use text::limits::BYTE_VALUES;
+use circuit::faults::Refusal;
+use circuit::gates::{Gate, gates};
+use text::hex::{NEWLINE, four_digits, two_digits};
+use text::limits::{COUNTS_LINE_BYTES, GATE_LINE_BYTES, REFUSED_LINE_BYTES, WIRES_LINE_BYTES};
 
 // A fault: `refused `, the number in two digits, a space and the place in four.
-pub fn put_refused(fault: u8, place: usize, out: &mut [u8], at: usize) -> usize
-    requires { at + refused_line_bytes ≤ length out.old }
-    ensures { Writes out.old at (refused_line fault place) out.new result }
+pub fn refused_line(refusal: Refusal) -> [u8; REFUSED_LINE_BYTES]
+    ensures { result ≡ refused_line (number refusal.fault) refusal.place }
 {
-    let a = put(b"refused ", out, at);
-    let b = put_two(fault as usize, out, a);
-    let c = put_byte(SPACE, out, b);
-    put_number(place, NEWLINE, out, c)
+    let mut line = *b"refused 00 0000\n";
+    line[8..10].copy_from_slice(&two_digits(usize::from(refusal.fault.number())));
+    line[11..15].copy_from_slice(&four_digits(refusal.place));
+    line
 }
 
 // n in two digits.
-pub fn put_wires(n: usize, out: &mut [u8], at: usize) -> usize
-    requires { at + wires_line_bytes ≤ length out.old }
-    ensures { Writes out.old at (wires_line n) out.new result }
+pub fn wires_line(n: usize) -> [u8; WIRES_LINE_BYTES]
+    ensures { result ≡ wires_line n }
 {
-    let next = put_two(n, out, at);
-    put_byte(NEWLINE, out, next)
+    let [a, b] = two_digits(n);
+    [a, b, NEWLINE]
 }
 
 // T in, odd set size, T out and moves, with single spaces.
-pub fn put_counts(
-    tin: usize,
-    odd: usize,
-    tout: usize,
-    moves: usize,
-    out: &mut [u8],
-    at: usize,
-) -> usize
-    requires { at + counts_line_bytes ≤ length out.old }
-    ensures { Writes out.old at (counts_line tin odd tout moves) out.new result }
+pub fn counts_line(tin: usize, odd: usize, tout: usize, moves: usize) -> [u8; COUNTS_LINE_BYTES]
+    ensures { result ≡ counts_line tin odd tout moves }
 {
-    let a = put_number(tin, SPACE, out, at);
-    let b = put_number(odd, SPACE, out, a);
-    let c = put_number(tout, SPACE, out, b);
-    put_number(moves, NEWLINE, out, c)
-}
-
-// The gates one after the other.
-pub fn put_gates(gates: &[u8], out: &mut [u8], at: usize) -> usize
-    requires { at + gate_line_bytes * (length gates.now / gate_bytes) ≤ length out.old }
-    ensures { Writes out.old at (gate_lines (gates_of gates.now)) out.new result }
-{
-    let m = gates.len() / GATE_BYTES;
-    let mut next = at;
-    let mut i: usize = 0;
-    while i < m {
-        let g = gate_at(gates, i);
-        next = put_gate(g.kind, g.a, g.b, out, next);
-        i += 1;
-    }
-    next
+    let mut line = *b"0000 0000 0000 0000\n";
+    line[..4].copy_from_slice(&four_digits(tin));
+    line[5..9].copy_from_slice(&four_digits(odd));
+    line[10..14].copy_from_slice(&four_digits(tout));
+    line[15..19].copy_from_slice(&four_digits(moves));
+    line
 }
 
 // A gate in six digits.
-fn put_gate(kind: u8, a: u8, b: u8, out: &mut [u8], at: usize) -> usize
-    requires { at + gate_line_bytes ≤ length out.old }
-    ensures { Writes out.old at (gate_line (gate kind a b)) out.new result }
+fn gate_line(gate: Gate) -> [u8; GATE_LINE_BYTES]
+    ensures { result ≡ gate_line (gate_of gate) }
 {
-    let p = put_two(kind as usize, out, at);
-    let q = put_two(a as usize, out, p);
-    let r = put_two(b as usize, out, q);
-    put_byte(NEWLINE, out, r)
+    let [kind, a, b] = gate;
+    let [c, d] = two_digits(usize::from(kind));
+    let [e, f] = two_digits(usize::from(a));
+    let [g, h] = two_digits(usize::from(b));
+    [c, d, e, f, g, h, NEWLINE]
 }
 
-// The last four digits of a number, and the byte after it.
-fn put_number(v: usize, after: u8, out: &mut [u8], at: usize) -> usize
-    requires { at + 5 ≤ length out.old }
-    ensures { Writes out.old at (number v after) out.new result }
+// The gates of a list one after the other; gives how many bytes they take.
+pub fn put_gates(list: &[u8], out: &mut [u8]) -> usize
+    requires { gate_line_bytes * (length list.now / gate_bytes) ≤ length out.old }
+    ensures { Writes out.old 0 (gate_lines (gates_of list.now)) out.new result }
 {
-    let p = put_two(v / BYTE_VALUES, out, at);
-    let q = put_two(v, out, p);
-    put_byte(after, out, q)
+    let gates = gates(list);
+    for (i, &gate) in gates.iter().enumerate() {
+        let at = GATE_LINE_BYTES * i;
+        out[at..at + GATE_LINE_BYTES].copy_from_slice(&gate_line(gate));
+    }
+    GATE_LINE_BYTES * gates.len()
 }
 
-// The last two digits of a number.
-fn put_two(v: usize, out: &mut [u8], at: usize) -> usize
-    requires { at + 2 ≤ length out.old }
-    ensures { Writes out.old at (hex2 v) out.new result }
+// The line of a refusal; gives how many bytes it has.
+pub fn put_refused(refusal: Refusal, out: &mut [u8]) -> usize
+    requires { refused_line_bytes ≤ length out.old }
+    ensures { Writes out.old 0 (refused_line (number refusal.fault) refusal.place) out.new result }
 {
-    out[at] = last_digit(v / 16);
-    out[at + 1] = last_digit(v);
-    at + 2
+    put(&refused_line(refusal), out)
 }
 
-fn put_byte(b: u8, out: &mut [u8], at: usize) -> usize
-    requires { at < length out.old }
-    ensures { Writes out.old at (b ∷ []) out.new result }
+// Bytes as they are; gives their number.
+pub fn put(bytes: &[u8], out: &mut [u8]) -> usize
+    requires { length bytes.now ≤ length out.old }
+    ensures { Writes out.old 0 bytes.now out.new result }
 {
-    out[at] = b;
-    at + 1
-}
-
-// Bytes as they are.
-pub fn put(source: &[u8], out: &mut [u8], at: usize) -> usize
-    requires { at + length source.now ≤ length out.old }
-    ensures { Writes out.old at source.now out.new result }
-{
-    let next = at + source.len();
-    copy_bytes(source, &mut out[at..next]);
-    next
+    out[..bytes.len()].copy_from_slice(bytes);
+    bytes.len()
 }

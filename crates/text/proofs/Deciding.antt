@@ -11,26 +11,13 @@ use lib.Seq.{get_or-take, take_all}
 use Rattle.gf2.proofs.Table.{drop-take}
 use Rattle.circuit.specs.Faults.{refuse, wires_fault}
 use Rattle.circuit.specs.Limits.{max_gates}
-use Rattle.circuit.specs.Replies.{Reply}
-use Rattle.circuit.specs.Replies.{Done, Refused}
-use Rattle.text.proofs.LineForms.{first_formed_lem, starts}
+use Rattle.circuit.specs.Replies.{Done, Refused, Reply}
+use Rattle.text.proofs.LineForms.{formed_take}
 use Rattle.text.proofs.TextFaults.{by_count, done_few, done_next, fault_from, gate_right, gate_wrong, gates_done, one_too_many}
 use Rattle.text.proofs.TextFaults.{one_wrong, read_faulty}
 use Rattle.text.specs.Limits.{gate_digits, gate_line_bytes, longest_text, text_bytes, wires_digits, wires_line_bytes}
 use Rattle.text.specs.Lines.{byte_at, first_formed, lines_of, pair}
 use Rattle.text.specs.Text.{lines_fault, read_text}
-
--- ---- a line by the first bytes
-
-starts_take : (k m : ℕ) (t : List ℕ) → k < m → starts k (take m t) ≡ starts k t
-unfolding starts
-starts_take k zero t h = absurd (omega arith)
-starts_take k (suc m) [] h = refl
-starts_take zero (suc m) (b ∷ t) h = refl
-starts_take (suc k) (suc m) (b ∷ t) h = rw (starts_take k m t (omega arith))
-
-formed_take : (k m : ℕ) (t : List ℕ) → k < m → first_formed k (lines_of (take m t)) ≡ first_formed k (lines_of t)
-formed_take k m t h = sym (first_formed_lem k (take m t)) ∙ starts_take k m t h ∙ first_formed_lem k t
 
 -- ---- r gate lines may come yet: their bytes and one more decide
 

@@ -1,11 +1,16 @@
 -- Hex digits by cases: which bytes are digits, and that a digit and its number give each other back.
 use mathlib.Core.Bool.{Bool, false, false≢true, true}
+use mathlib.Core.List.{List}
 use mathlib.Core.Path.{◌∙◌, ◌≡◌, sym}
 use Prim.Native.Nat.{◌+◌, ◌-◌, ◌<◌, ◌≤◌, ℕ}
 use native.Mathlib.Decide.{dec_le, dec_lt}
 use native.Mathlib.Omega.{arith}
-use lib.Dec.{eqb}
+use lib.Chars.{codes}
+use lib.Dec.{eqb, eqb→eq}
+use lib.ListN.{get_or}
 use borrow.Author.Tests.{le-leb, le-ltb, lt-leb, lt-ltb, ne_eqb}
+use Rattle.gf2.proofs.Every.{every-at}
+use Rattle.gf2.specs.Every.{every}
 use Rattle.text.specs.Hex.{digit, is_digit, newline, value_of}
 
 -- ---- which bytes are digits, and of what
@@ -56,6 +61,14 @@ low_digit v h = simp (lt-ltb v 10 h)
 pub high_digit : (v : ℕ) → 10 ≤ v → digit v ≡ 87 + v
 unfolding digit
 high_digit v h = simp (le-ltb v 10 h)
+
+-- the sixteen digits in order, as the code has them
+abbrev digits : List ℕ
+digits = codes "0123456789abcdef"
+
+pub digit_at : (v : ℕ) → v < 16 → get_or digits v 0 ≡ digit v
+unfolding digit every
+digit_at v h = eqb→eq (get_or digits v 0) (digit v) (every-at 16 (λ i. eqb (get_or digits i 0) (digit i)) tt v h)
 
 -- a digit is a decimal or a letter
 pub data Digit (b : ℕ) : Type 0 where

@@ -3,13 +3,13 @@
 use mathlib.Core.Bool.{Bool, ◌&&◌, and-false, cond, false, false≢true, true}
 use mathlib.Core.List.{List, [], ◌∷◌}
 use mathlib.Core.Path.{◌∙◌, ◌≡◌, ap, refl, sym}
-use Prim.Native.Nat.{◌+◌, ◌-◌, ◌<◌, ◌≤◌, suc, zero, ℕ}
-use native.Mathlib.Nat.{add-zero, sub_self, sub-zero}
+use Prim.Native.Nat.{◌+◌, ◌<◌, ◌≤◌, suc, zero, ℕ}
 use native.Mathlib.Numerals.{add-one}
 use native.Mathlib.Omega.{arith}
 use lib.Dec.{eqb}
 use lib.ListN.{drop, get_or, length, length-drop, take}
 use lib.Seq.{drop-cons, drop-drop}
+use Rattle.std.specs.List.{list_all}
 use Rattle.text.proofs.HexDigits.{not_newline}
 use Rattle.text.specs.Hex.{is_digit, newline}
 use Rattle.text.specs.Lines.{Line, are_digits, ended, first_formed, in_front, lines_of, longer, unended}
@@ -57,6 +57,10 @@ pub and_both : (a b : Bool) → a && b ≡ true → (a ≡ true) × (b ≡ true)
 and_both true b e = (refl, e)
 and_both false b e = absurd (false≢true e)
 
+and_true : (a : Bool) → a && true ≡ a
+and_true true = refl
+and_true false = refl
+
 pub first_line : (k : ℕ) (t : List ℕ) → starts k t ≡ true → lines_of t ≡ ended (take k t) ∷ lines_of (drop (suc k) t)
 unfolding starts lines_of
 first_line k [] e = absurd (false≢true e)
@@ -96,50 +100,45 @@ module _ (t : List ℕ) (at : ℕ) where
   pub some_line : at < length t → (l : Line) × (ls : List Line) × (lines_of (drop at t) ≡ l ∷ ls)
   some_line h = rw (drop-cons t at 0 h) (some (get_or t at 0) (drop (suc at) t))
 
--- ---- the loop over the digits of a line: digit j of k stands at place `at` + j
+-- ---- by its first bytes
 
-pub too_short : (t : List ℕ) (at k : ℕ) → length t - at ≤ k → false ≡ first_formed k (lines_of (drop at t))
-too_short t at k h = go (first_formed k (lines_of (drop at t))) refl
+starts_take : (k m : ℕ) (t : List ℕ) → k < m → starts k (take m t) ≡ starts k t
+unfolding starts
+starts_take k zero t h = absurd (omega arith)
+starts_take k (suc m) [] h = refl
+starts_take zero (suc m) (b ∷ t) h = refl
+starts_take (suc k) (suc m) (b ∷ t) h = rw (starts_take k m t (omega arith))
+
+pub formed_take : (k m : ℕ) (t : List ℕ) → k < m → first_formed k (lines_of (take m t)) ≡ first_formed k (lines_of t)
+formed_take k m t h = sym (first_formed_lem k (take m t)) ∙ starts_take k m t h ∙ first_formed_lem k t
+
+-- ---- by its bytes: so many of them are there, the one behind the digits is the newline, and each before it is a digit
+
+starts_by : (k : ℕ) (t : List ℕ) → k < length t → starts k t ≡ list_all is_digit (take k t) && eqb (get_or t k 0) newline
+unfolding starts
+starts_by k [] h = absurd (omega arith)
+starts_by zero (b ∷ bs) h = refl
+starts_by (suc k) (b ∷ bs) h = go (is_digit b) (starts_by k bs (omega arith))
   where
-    go : (e : Bool) → first_formed k (lines_of (drop at t)) ≡ e → false ≡ e
-    go true e = absurd (omega (arith, formed_long t at k e))
+    go : (d : Bool) → starts k bs ≡ list_all is_digit (take k bs) && eqb (get_or bs k 0) newline
+        → d && starts k bs ≡ (d && list_all is_digit (take k bs)) && eqb (get_or bs k 0) newline
+    go true e = e
     go false e = refl
 
-module _ (t : List ℕ) (at j : ℕ) (inside : at + j < length t) where
-  starts_step : (r : ℕ) → starts (suc r) (drop (at + j) t) ≡ is_digit (get_or t (at + j) 0) && starts r (drop (at + (j + 1)) t)
-  unfolding starts
-  starts_step r =
-      let e : suc (at + j) ≡ at + (j + 1) = omega arith in
-      ap (starts (suc r)) (drop-cons t (at + j) 0 inside) ∙ ap (λ (p : ℕ). is_digit (get_or t (at + j) 0) && starts r (drop p t)) e
+module _ (t : List ℕ) (k : ℕ) where
+  pub too_short : length t ≤ k → false ≡ first_formed k (lines_of t)
+  too_short h = go (first_formed k (lines_of t)) refl
+    where
+      go : (e : Bool) → first_formed k (lines_of t) ≡ e → false ≡ e
+      go true e = absurd (omega (arith, formed_long t 0 k e))
+      go false e = refl
 
-  starts_end : starts zero (drop (at + j) t) ≡ eqb (get_or t (at + j) 0) newline
-  unfolding starts
-  starts_end = rw (drop-cons t (at + j) 0 inside)
+  module _ (long : k < length t) where
+    by_bytes : list_all is_digit (take k t) && eqb (get_or t k 0) newline ≡ first_formed k (lines_of t)
+    by_bytes = sym (starts_by k t long) ∙ first_formed_lem k t
 
--- digits stand at the first j of the places: the line has the form exactly if the rest of it has
-pub record DigitsTo (t : List ℕ) (at k j : ℕ) : Type 0 where
-  pub within : j ≤ k
-  pub inside : at + k < length t
-  pub rest : starts (k - j) (drop (at + j) t) ≡ first_formed k (lines_of (drop at t))
+    pub not_ended : eqb (get_or t k 0) newline ≡ false → false ≡ first_formed k (lines_of t)
+    not_ended e = sym (and-false (list_all is_digit (take k t))) ∙ (rw e at by_bytes)
 
-pub digits_none : (t : List ℕ) (at k : ℕ) → at + k < length t → DigitsTo t at k 0
-digits_none t at k h =
-    record { within = omega arith; inside = h; rest = rw (sub-zero k, add-zero at) (first_formed_lem k (drop at t)) }
-
-module _ {t : List ℕ} {at k j : ℕ} (d : DigitsTo t at k j) where
-  module _ (left : j < k) where
-    one_more : is_digit (get_or t (at + j) 0) && starts (k - (j + 1)) (drop (at + (j + 1)) t) ≡ first_formed k (lines_of (drop at t))
-    one_more =
-        let e : k - j ≡ suc (k - (j + 1)) = omega arith in
-        sym (starts_step t at j (omega (arith, d.inside)) (k - (j + 1))) ∙ ap (λ (r : ℕ). starts r (drop (at + j) t)) (sym e) ∙ d.rest
-
-    pub digit_wrong : is_digit (get_or t (at + j) 0) ≡ false → false ≡ first_formed k (lines_of (drop at t))
-    digit_wrong e = rw e at one_more
-
-    pub digit_right : is_digit (get_or t (at + j) 0) ≡ true → DigitsTo t at k (j + 1)
-    digit_right e = record { within = omega arith; inside = d.inside; rest = rw e at one_more }
-
-  pub digits_end : k ≤ j → eqb (get_or t (at + k) 0) newline ≡ first_formed k (lines_of (drop at t))
-  digits_end h =
-      let e : j ≡ k = omega (arith, d.within) in
-      sym (starts_end t at k d.inside) ∙ (rw (e, sub_self k) at d.rest)
+    pub all_digits : eqb (get_or t k 0) newline ≡ true → list_all is_digit (take k t) ≡ first_formed k (lines_of t)
+    all_digits e = sym (and_true (list_all is_digit (take k t))) ∙ (rw e at by_bytes)

@@ -1,20 +1,21 @@
 -- The faults of a text by cases: one turn, and each way out, of the loop over the gate lines, and of line one.
 use mathlib.Core.Bool.{Bool, false, true}
-use mathlib.Core.List.{List, [], ◌∷◌}
+use mathlib.Core.List.{List, [], ◌∷◌, ◌++◌, append-nil}
 use mathlib.Core.Logic.{◌≢◌}
 use mathlib.Core.Path.{◌∙◌, ◌≡◌, ap, refl, sym}
-use Prim.Native.Nat.{◌+◌, ◌<◌, ◌≤◌, suc, zero, ℕ}
+use Prim.Native.Nat.{◌+◌, ◌<◌, ◌≤◌, min, suc, zero, ℕ}
 use native.Mathlib.Decide.{dec_le, dec_lt, ℕ_discrete}
 use native.Mathlib.Numerals.{add-one}
 use native.Mathlib.Omega.{arith}
-use lib.ListN.{drop, drop_of_length-le, length, take}
+use lib.ListN.{drop, drop_of_length-le, length, length-append, take}
+use lib.Seq.{drop-append_seam, take-append_seam, take_all}
 use borrow.Author.Tests.{eq-eqb, le-ltb, lt-leb, lt-ltb, ne_eqb}
+use Rattle.std.proofs.lemmas.List.{nil_from_length}
 use Rattle.circuit.proofs.Judging.{refuse_done, refused, wires_well}
 use Rattle.circuit.specs.Faults.{list_length, malformed, refuse, wire_count, wires_fault}
 use Rattle.circuit.specs.Limits.{max_gates, max_wires}
-use Rattle.circuit.specs.Replies.{Reply}
-use Rattle.circuit.specs.Replies.{Done, Refused}
-use Rattle.text.proofs.LineForms.{formed_lines, formed_long, some_line}
+use Rattle.circuit.specs.Replies.{Done, Refused, Reply}
+use Rattle.text.proofs.LineForms.{formed_lines, formed_long, formed_take, some_line}
 use Rattle.text.specs.Limits.{gate_digits, gate_line_bytes, wires_digits, wires_line_bytes}
 use Rattle.text.specs.Lines.{Line, byte_at, decoded, ended, first_formed, formed, lines_decoded, lines_of}
 use Rattle.text.specs.Text.{circuit, faulty, gates_fault, lines_fault, read_text, wires_in}
@@ -63,29 +64,66 @@ module _ (t : List ℕ) (at i : ℕ) where
       let s = formed_lines t at gate_digits e in
       sym (rw (s, add-one i) (right i (ended (take gate_digits (drop at t))) (lines_of (drop (at + gate_line_bytes) t)) k (rw s at e)))
 
--- ---- the loop over the gate lines
+-- ---- the loop over the gate lines, as chunks of so many bytes each
 
--- the gate lines before i, which starts at `at`, have the form: the first fault from there on is the first of all
-pub record PassedTo (t : List ℕ) (at i : ℕ) : Type 0 where
+-- what chunks of n bytes each are cut into: the first of them, and what is left
+pub record Cut (n : ℕ) (s line rest : List ℕ) : Type 0 where
+  pub is : s ≡ line ++ rest
+  pub long : length line ≡ min n (length s)
+  pub some : 0 < length s
+
+pub cut : {n : ℕ} {s line rest : List ℕ} → (s ≡ line ++ rest) × (length line ≡ min n (length s)) × (0 < length s) → Cut n s line rest
+cut h = record { is = h.0; long = h.1; some = h.2 }
+
+module _ {n : ℕ} {s line rest : List ℕ} (c : Cut n s line rest) where
+  cut_is : (line ≡ take n s) × (rest ≡ drop n s)
+  cut_is = go (dec_le n (length s))
+    where
+      go : Dec (n ≤ length s) → (line ≡ take n s) × (rest ≡ drop n s)
+      go (yes h) =
+          let e : n ≡ length line = omega (arith, c.long) in
+          (rw (c.is, e) (sym (take-append_seam line rest)), rw (c.is, e) (sym (drop-append_seam line rest)))
+      go (no h) =
+          let e : length rest ≡ 0 = omega (arith, c.long, ap length c.is, length-append line rest) in
+          let z : rest ≡ [] = nil_from_length rest e in
+          let l : line ≡ s = sym (c.is ∙ rw z (append-nil line)) in
+          (l ∙ sym (take_all n s (omega arith)), z ∙ sym (drop_of_length-le s (omega arith)))
+
+-- the gate lines before i have the form: the first fault of the rest, which is cut on, is the first of all
+pub record PassedTo (lines : List ℕ) (size i : ℕ) (rest : List ℕ) : Type 0 where
+  pub cuts : size ≡ gate_line_bytes
   pub few : i ≤ max_gates
-  pub inside : at ≤ length t
-  pub same : fault_from t at i ≡ fault_from t wires_line_bytes 0
+  pub same : gates_fault i (lines_of rest) ≡ gates_fault 0 (lines_of lines)
 
-module _ {t : List ℕ} {at i : ℕ} (p : PassedTo t at i) where
-  pub all_passed : length t ≤ at → Done ≡ fault_from t wires_line_bytes 0
-  all_passed h = sym (no_more t at i h) ∙ p.same
+pub none_passed : {size : ℕ} {rest : List ℕ} (lines : List ℕ) → size ≡ gate_line_bytes → rest ≡ lines → PassedTo lines size 0 rest
+none_passed lines e f = record { cuts = e; few = omega arith; same = rw f }
 
-  module _ (more : at < length t) where
-    pub line_too_many : max_gates ≤ i → Refused list_length 0 ≡ fault_from t wires_line_bytes 0
-    line_too_many h = sym (one_too_many t at i more h) ∙ p.same
+module _ {lines : List ℕ} {size i : ℕ} {rest : List ℕ} (p : PassedTo lines size i rest) where
+  pub all_passed : length rest ≡ 0 → Done ≡ gates_fault 0 (lines_of lines)
+  all_passed h = sym (no_more rest 0 i (omega arith)) ∙ p.same
 
-    pub line_wrong : i < max_gates → first_formed gate_digits (lines_of (drop at t)) ≡ false
-        → Refused malformed (i + 2) ≡ fault_from t wires_line_bytes 0
-    line_wrong h e = sym (gate_wrong t at i more h e) ∙ p.same
+  module _ {line more : List ℕ} (c : Cut size rest line more) where
+    same_form : first_formed gate_digits (lines_of line) ≡ first_formed gate_digits (lines_of rest)
+    same_form = rw (cut_is c).0 (formed_take gate_digits size rest (omega (arith, p.cuts)))
 
-  pub line_passed : i < max_gates → first_formed gate_digits (lines_of (drop at t)) ≡ true → PassedTo t (at + gate_line_bytes) (i + 1)
-  line_passed h e =
-      record { few = omega arith; inside = omega (arith, formed_long t at gate_digits e); same = gate_right t at i h e ∙ p.same }
+    pub line_too_many : max_gates ≤ i → Refused list_length 0 ≡ gates_fault 0 (lines_of lines)
+    line_too_many h = sym (one_too_many rest 0 i c.some h) ∙ p.same
+
+    pub line_wrong : i < max_gates → first_formed gate_digits (lines_of line) ≡ false
+        → Refused malformed (i + 2) ≡ gates_fault 0 (lines_of lines)
+    line_wrong h e = sym (gate_wrong rest 0 i c.some h (sym same_form ∙ e)) ∙ p.same
+
+    pub line_passed : {size' : ℕ} → size' ≡ size → i < max_gates → first_formed gate_digits (lines_of line) ≡ true
+        → PassedTo lines size' (i + 1) more
+    line_passed e h f =
+        record {
+          cuts = e ∙ p.cuts;
+          few = omega arith;
+          same =
+              ap (λ (l : List ℕ). gates_fault (i + 1) (lines_of l)) ((cut_is c).1 ∙ ap (λ (n : ℕ). drop n rest) p.cuts)
+              ∙ gate_right rest 0 i h (sym same_form ∙ f)
+              ∙ p.same;
+        }
 
 -- ---- line one
 

@@ -9,15 +9,17 @@ use native.Mathlib.Omega.{arith}
 use lib.ListN.{drop, length, length-append, length-take, take}
 use lib.Seq.{take-append_seam}
 use borrow.Author.Tests.{eq-eqb, le-leb, lt-leb, ne_eqb}
+use Rattle.std.specs.Prelude.{Err, Ok, Result}
 use Rattle.circuit.proofs.Bytes.{length-gates}
+use Rattle.circuit.proofs.Judging.{refused_not_done}
 use Rattle.circuit.proofs.Placing.{placed_kept}
 use Rattle.circuit.specs.Faults.{call_reply, lent_output, list_length, malformed, short_fault, wire_count, wires_fault}
 use Rattle.circuit.specs.Gate.{Gate, gate, gates_of}
 use Rattle.circuit.specs.Lent.{KeptFrom}
 use Rattle.circuit.specs.Limits.{gate_bytes, max_gates, max_list_bytes, max_wires, max_written_gates}
-use Rattle.circuit.specs.Replies.{number_of}
-use Rattle.circuit.specs.Replies.{Reply}
-use Rattle.circuit.specs.Replies.{Done as Judged, Refused as Found}
+use Rattle.circuit.specs.Replies.{Done, Refused, Reply, number_of}
+use Rattle.circuit.specs.Told.{number, told}
+use Rattle.circuit.specs.declared.faults.Refusal.{Refusal}
 use Rattle.text.proofs.Deciding.{text_decided}
 use Rattle.text.proofs.LineForms.{first_formed_lem}
 use Rattle.text.proofs.ReadsWritten.{never, reads_written}
@@ -25,15 +27,14 @@ use Rattle.text.proofs.TextFaults.{Small, count_refused, faults_small, gate_wron
 use Rattle.text.proofs.TextFaults.{read_faulty}
 use Rattle.text.proofs.TextWays.{reply_of, reply_is}
 use Rattle.text.proofs.WrittenReads.{circuit_pass, pair_hex, pair_low, wires_starts, written_reads}
-use Rattle.text.specs.Entry.{ReadText, fault_said, gates_after, gates_said, read_into, told, wires_said}
+use Rattle.text.specs.Entry.{ReadText, fault_said, gates_after, gates_said, read_into, wires_said}
 use Rattle.text.specs.Hex.{hex2, hex4}
 use Rattle.text.specs.Limits.{counts_line_bytes, gate_digits, gate_line_bytes, refused_line_bytes, reply_bytes, text_bytes}
 use Rattle.text.specs.Limits.{byte_values, wires_digits, wires_line_bytes}
 use Rattle.text.specs.Lines.{decoded, first_formed, lines_of}
 use Rattle.text.specs.Text.{Sayable, Text, circuit, faulty, lines_fault, read_text, unless_refused}
 use Rattle.text.specs.Written.{counts_line, gate_line, gate_lines, refused_line, text_of, wires_line}
-use Rattle.text.specs.declared.TextReply.{TextReply}
-use Rattle.text.specs.declared.TextReply.TheVariants.{Done, Refused}
+use Rattle.text.specs.declared.Circuit.{Circuit}
 
 wires_wrong : (n : ℕ) → (n ≡ 0) ⊎ (max_wires < n) → wires_fault n ≡ wire_count
 wires_wrong n (inl e) = simp (eq-eqb n 0 e)
@@ -100,8 +101,8 @@ fault_small lent t number place e = go (dec_le max_list_bytes lent)
         omega arith
 
     of_text : (r : Reply) → lines_fault (lines_of t) ≡ r → read_text t ≡ faulty number place → Small number place
-    of_text Judged f d = absurd (never number place _ _ (sym d ∙ read_circuit t f))
-    of_text (Found x y) f d = same x y (sym (read_faulty t x y f) ∙ d) (faults_small t x y f)
+    of_text Done f d = absurd (never number place _ _ (sym d ∙ read_circuit t f))
+    of_text (Refused x y) f d = same x y (sym (read_faulty t x y f) ∙ d) (faults_small t x y f)
 
     go : Dec (max_list_bytes ≤ lent) → Small number place
     go (yes h) = of_text (lines_fault (lines_of t)) refl (sym (with_room lent t h) ∙ e)
@@ -116,7 +117,7 @@ pub first_bytes_decide : (t : List ℕ) → read_text t ≡ read_text (take text
 first_bytes_decide t = sym (text_decided t)
 
 -- so a call with these bytes alone replies and leaves what one with the whole text does
-pub call_decided : (t gates gates' : List ℕ) (r : TextReply) → ReadText (take text_bytes t) gates gates' r → ReadText t gates gates' r
+pub call_decided : (t gates gates' : List ℕ) (r : Result Circuit Refusal) → ReadText (take text_bytes t) gates gates' r → ReadText t gates gates' r
 call_decided t gates gates' r c =
     let same : read_into (length gates) (take text_bytes t) ≡ read_into (length gates) t =
     ap (unless_refused (call_reply (short_fault (length gates) max_list_bytes))) (text_decided t) in
@@ -130,26 +131,23 @@ call_decided t gates gates' r c =
 -- ---- what the promise of `read_text` means
 
 -- the reply is the wire count and the number of gates of what is read, or its fault
-pub reply_as_read : (t gates gates' : List ℕ) (r : TextReply) → ReadText t gates gates' r → r ≡ reply_of (read_into (length gates) t)
+pub reply_as_read : (t gates gates' : List ℕ) (r : Result Circuit Refusal) → ReadText t gates gates' r → r ≡ reply_of (read_into (length gates) t)
 reply_as_read t gates gates' r p = reply_is p
 
 -- number 0 says done
-pub text_number : (t gates gates' : List ℕ) (r : TextReply) → ReadText t gates gates' r → number_of (told r) ≡ 0 → told r ≡ Judged
+pub text_number : (t gates gates' : List ℕ) (r : Result Circuit Refusal) → ReadText t gates gates' r → number_of (told r) ≡ 0 → told r ≡ Done
 text_number t gates gates' r p e = p.reply ∙ go (read_into (length gates) t) refl (sym (ap number_of p.reply) ∙ e)
   where
-    go : (x : Text) → read_into (length gates) t ≡ x → number_of (fault_said x) ≡ 0 → fault_said x ≡ Judged
+    go : (x : Text) → read_into (length gates) t ≡ x → number_of (fault_said x) ≡ 0 → fault_said x ≡ Done
     go (circuit n bytes) d z = refl
     go (faulty number place) d z = absurd (omega (arith, (fault_small (length gates) t number place d).0))
 
-refused_read : (number place n m : ℕ) → Refused number place ≡ Done n m → ⊥
-refused_read number place n m e = let z : ◌≡◌ {A = ℕ} 0 1 = cc in omega arith
-
 -- after a refusal the lent gates are as they were
-pub refusal_leaves : (t gates gates' : List ℕ) (number place : ℕ) → ReadText t gates gates' (Refused number place) → gates' ≡ gates
-refusal_leaves t gates gates' number place c = go (read_into (length gates) t) (reply_is c) c.gates_left
+pub refusal_leaves : (t gates gates' : List ℕ) (refusal : Refusal) → ReadText t gates gates' (Err refusal) → gates' ≡ gates
+refusal_leaves t gates gates' refusal c = go (read_into (length gates) t) c.reply c.gates_left
   where
-    go : (x : Text) → Refused number place ≡ reply_of x → gates' ≡ gates_after x gates → gates' ≡ gates
-    go (circuit n bytes) e l = absurd (refused_read number place n (length bytes / gate_bytes) e)
+    go : (x : Text) → Refused (number refusal.fault) refusal.place ≡ fault_said x → gates' ≡ gates_after x gates → gates' ≡ gates
+    go (circuit n bytes) e l = absurd (refused_not_done (number refusal.fault) refusal.place e)
     go (faulty f p) e l = l
 
 -- the circuit that was read: n wires, and the bytes of m gates at the start of those lent
@@ -160,57 +158,51 @@ pub record CircuitRead (t gates gates' : List ℕ) (n m : ℕ) : Type 0 where
   pub few : m ≤ max_gates
   pub long : length (take (gate_bytes * m) gates') ≡ gate_bytes * m
 
-pub done_reads : (t gates gates' : List ℕ) (n m : ℕ) → ReadText t gates gates' (Done n m) → CircuitRead t gates gates' n m
-done_reads t gates gates' n m c = go (dec_le max_list_bytes (length gates))
+pub done_reads : (t gates gates' : List ℕ) (c : Circuit) → ReadText t gates gates' (Ok c) → CircuitRead t gates gates' c.wires c.gates
+done_reads t gates gates' c p = go (dec_le max_list_bytes (length gates))
   where
-    of_text : max_list_bytes ≤ length gates → (x : Text) → read_text t ≡ x → Done n m ≡ reply_of x → gates' ≡ gates_after x gates
-        → CircuitRead t gates gates' n m
-    of_text h (faulty f p) e r l = absurd (refused_read f p n m (sym r))
-    of_text h (circuit k bytes) e r l =
+    of_text : max_list_bytes ≤ length gates → (x : Text) → read_text t ≡ x → Done ≡ fault_said x → c.wires ≡ wires_said x
+        → c.gates ≡ gates_said x → gates' ≡ gates_after x gates → CircuitRead t gates gates' c.wires c.gates
+    of_text h (faulty f q) e r a b l = absurd (refused_not_done f q (sym r))
+    of_text h (circuit k bytes) e r a b l =
         let s = (reads_written t k bytes e).0 in
-        let a : k ≡ n = cc in
-        let b : m ≡ length bytes / gate_bytes = cc in
-        let d : gate_bytes * m ≡ length bytes = omega (arith, s.whole) in
-        let front : take (gate_bytes * m) gates' ≡ bytes = rw (d, l) (take-append_seam bytes (drop (0 + length bytes) gates)) in
+        let d : gate_bytes * c.gates ≡ length bytes = omega (arith, s.whole) in
+        let front : take (gate_bytes * c.gates) gates' ≡ bytes = rw (d, l) (take-append_seam bytes (drop (0 + length bytes) gates)) in
         record {
-          says = e ∙ ap₂ circuit a (sym front);
-          sayable = rw front (rw (← a) s);
+          says = e ∙ ap₂ circuit (sym a) (sym front);
+          sayable = rw front (rw a s);
           kept = rw (d, l) (placed_kept gates bytes (omega (arith, s.short)));
           few = omega (arith, s.short);
           long = ap length front ∙ sym d;
         }
 
-    go : Dec (max_list_bytes ≤ length gates) → CircuitRead t gates gates' n m
+    go : Dec (max_list_bytes ≤ length gates) → CircuitRead t gates gates' c.wires c.gates
     go (yes h) =
         let r = with_room (length gates) t h in
-        of_text h (read_text t) refl (reply_is c ∙ ap reply_of r) (c.gates_left ∙ ap (λ (x : Text). gates_after x gates) r)
-    go (no h) = absurd (refused_read lent_output 0 n m (sym (reply_is c ∙ ap reply_of (without_room (length gates) t (omega arith)))))
+        of_text h (read_text t) refl (rw r at p.reply) (rw r at p.wires) (rw r at p.count) (rw r at p.gates_left)
+    go (no h) =
+        absurd (refused_not_done lent_output 0 (sym (p.reply ∙ ap fault_said (without_room (length gates) t (omega arith)))))
 
 -- the same by a reply that was found to be done
-pub circuit_said : {t gates gates' : List ℕ} {r : TextReply} {n m : ℕ} → ReadText t gates gates' r → r ≡ Done n m
-    → CircuitRead t gates gates' n m
-circuit_said {t} {gates} {gates'} {r} {n} {m} p is =
-    done_reads t gates gates' n m (subst (λ (x : TextReply). ReadText t gates gates' x) is p)
+pub circuit_said : {t gates gates' : List ℕ} {r : Result Circuit Refusal} {c : Circuit} → ReadText t gates gates' r → r ≡ Ok c
+    → CircuitRead t gates gates' c.wires c.gates
+circuit_said {t} {gates} {gates'} {r} {c} p is =
+    done_reads t gates gates' c (subst (λ (x : Result Circuit Refusal). ReadText t gates gates' x) is p)
 
 -- its gates stand within what was lent
 pub circuit_left : {t gates gates' : List ℕ} {n m : ℕ} → CircuitRead t gates gates' n m → gate_bytes * m ≤ length gates'
 circuit_left {gates' = gates'} {m = m} c = omega (arith, c.long, length-take (gate_bytes * m) gates')
 
 -- with room for every list, a refusal tells the fault of the text
-pub fault_said_lem : {t gates gates' : List ℕ} {r : TextReply} {number place : ℕ} → ReadText t gates gates' r
+pub fault_said_lem : {t gates gates' : List ℕ} {r : Result Circuit Refusal} {refusal : Refusal} → ReadText t gates gates' r
     → max_list_bytes ≤ length gates
-    → r ≡ Refused number place → read_text t ≡ faulty number place
-fault_said_lem {t} {gates} {gates'} {r} {number} {place} p room is = go (read_text t) refl
+    → r ≡ Err refusal → read_text t ≡ faulty (number refusal.fault) refusal.place
+fault_said_lem {t} {gates} {gates'} {r} {refusal} p room is =
+    go (read_text t) (sym (ap told is) ∙ p.reply ∙ ap fault_said (with_room (length gates) t room))
   where
-    same : Refused number place ≡ reply_of (read_text t)
-    same = sym is ∙ reply_is p ∙ ap reply_of (with_room (length gates) t room)
-
-    go : (x : Text) → read_text t ≡ x → read_text t ≡ faulty number place
-    go (circuit n bytes) e = absurd (refused_read number place n (length bytes / gate_bytes) (same ∙ ap reply_of e))
-    go (faulty f q) e = e ∙ told_again f q (same ∙ ap reply_of e)
-      where
-        told_again : (f q : ℕ) → Refused number place ≡ Refused f q → faulty f q ≡ faulty number place
-        told_again f q d = cc
+    go : (x : Text) → Refused (number refusal.fault) refusal.place ≡ fault_said x → x ≡ faulty (number refusal.fault) refusal.place
+    go (circuit n bytes) e = absurd (refused_not_done (number refusal.fault) refusal.place e)
+    go (faulty f q) e = cc
 
 -- ---- the lines written
 

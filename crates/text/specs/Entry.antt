@@ -1,30 +1,26 @@
 -- The entry `read_text`: its reply and what it leaves in the lent gates, for every text and every lent length.
-use Rattle.std.specs.Prelude.{List, ◌≡◌, ◌/◌, ℕ, length}
+use Rattle.std.specs.Prelude.{Err, List, Ok, Result, ◌≡◌, ◌/◌, ℕ, length}
 use Rattle.circuit.specs.Faults.{call_reply, refuse, short_fault}
 use Rattle.circuit.specs.Limits.{gate_bytes, max_list_bytes}
 use Rattle.circuit.specs.Lent.{placed}
 use Rattle.circuit.specs.Replies.{Reply}
 use Rattle.circuit.specs.Replies as reply
+use Rattle.circuit.specs.Told.{told}
+use Rattle.circuit.specs.declared.faults.Refusal.{Refusal}
 use Rattle.text.specs.Lines.{lines_of}
 use Rattle.text.specs.Text.{Text, circuit, faulty, lines_fault, read_text, unless_refused}
-use Rattle.text.specs.declared.TextReply.{TextReply}
-use Rattle.text.specs.declared.TextReply.TheVariants.{Done, Refused}
+use Rattle.text.specs.declared.Circuit.{Circuit}
 
 -- ---- the reply
 
--- each case in document 01's number and place: done, or the fault
-abbrev pub told : TextReply → Reply
-told (Done n count) = reply.Done
-told (Refused number place) = reply.Refused number place
-
 -- the wire count and the number of gates, 0 where it refused
-abbrev pub wires_of : TextReply → ℕ
-wires_of (Done n count) = n
-wires_of (Refused number place) = 0
+abbrev pub wires_of : Result Circuit Refusal → ℕ
+wires_of (Ok read) = read.wires
+wires_of (Err refusal) = 0
 
-abbrev pub count_of : TextReply → ℕ
-count_of (Done n count) = count
-count_of (Refused number place) = 0
+abbrev pub count_of : Result Circuit Refusal → ℕ
+count_of (Ok read) = read.gates
+count_of (Err refusal) = 0
 
 -- ---- what is read
 
@@ -55,7 +51,7 @@ gates_after (circuit n bytes) was = placed was 0 bytes
 gates_after (faulty number place) was = was
 
 -- `read_text`, called with this text and these lent gates, replies r and leaves gates'
-pub record ReadText (text gates gates' : List ℕ) (r : TextReply) : Type 0 where
+pub record ReadText (text gates gates' : List ℕ) (r : Result Circuit Refusal) : Type 0 where
   pub reply : told r ≡ fault_said (read_into (length gates) text)
   pub wires : wires_of r ≡ wires_said (read_into (length gates) text)
   pub count : count_of r ≡ gates_said (read_into (length gates) text)

@@ -1,23 +1,20 @@
-// Lower-case hex digits, read and written, and the two other bytes of the text form.
-ghost use Rattle.std.specs.Prelude.{◌≡◌, ◌%◌, ◌<◌};
-ghost use Rattle.text.specs.Hex.{digit, is_digit, value_of};
+// Lower-case hex digits, read and written, and the newline.
+ghost use Rattle.std.specs.Prelude.{◌≡◌, ◌%◌, ◌/◌, ◌<◌};
+ghost use Rattle.text.specs.Hex.{digit, hex2, hex4, is_digit, value_of};
 
-pub const NEWLINE: u8 = 10;
+use crate::limits::BYTE_VALUES;
 
-pub const SPACE: u8 = 32;
+pub const NEWLINE: u8 = b'\n';
 
 #[tactic(auto, using(std::proofs::lemmas::Bool::Decides::nat_tests), unfolding(crate::specs::Hex::is_digit))]
 pub fn is_digit(b: u8) -> bool
     ensures { result ≡ is_digit b }
 {
-    match b {
-        b'0'..=b'9' => true,
-        b'a'..=b'f' => true,
-        _ => false,
-    }
+    matches!(b, b'0'..=b'9' | b'a'..=b'f')
 }
 
 // The number that a digit stands for; 0 for another byte.
+#[tactic(auto, using(std::proofs::lemmas::Bool::Decides::nat_tests), unfolding(crate::specs::Hex::value_of))]
 pub fn value_of(b: u8) -> u8
     ensures { (result ≡ value_of b) × (result < 16) }
 {
@@ -28,10 +25,28 @@ pub fn value_of(b: u8) -> u8
     }
 }
 
+const DIGITS: &[u8; 16] = b"0123456789abcdef";
+
 // The last digit of a number.
-pub fn last_digit(v: usize) -> u8
+fn last_digit(v: usize) -> u8
     ensures { result ≡ digit (v % 16) }
 {
-    let d = (v % 16) as u8;
-    if d < 10 { b'0' + d } else { b'a' - 10 + d }
+    DIGITS[v % 16]
+}
+
+// The last two digits of a number. Printed by hand: what `write!` promises speaks of its Ok alone, so a function that cannot fail cannot
+// rest on it (tried: the arm of the Err stays open).
+pub fn two_digits(v: usize) -> [u8; 2]
+    ensures { result ≡ hex2 v }
+{
+    [last_digit(v / 16), last_digit(v)]
+}
+
+// The last four.
+pub fn four_digits(v: usize) -> [u8; 4]
+    ensures { result ≡ hex4 v }
+{
+    let [a, b] = two_digits(v / BYTE_VALUES);
+    let [c, d] = two_digits(v);
+    [a, b, c, d]
 }

@@ -9,28 +9,24 @@ pub mod hex;
 pub mod limits;
 pub mod reading;
 
-use circuit::Reply;
-use reading::{byte_at, read_text_fault, store_gates};
+use circuit::faults::Refusal;
+use limits::WIRES_LINE_BYTES;
+use reading::{check_text, pair, store_gates};
 
-// The wire count and the number of gates, or document 01's number and place of the fault.
-#[derive(Drop)]
-pub enum TextReply {
-    Done { n: usize, gates: usize },
-    Refused { number: u8, place: usize },
+// A circuit that was read: its wire count, and how many gates were stored.
+#[derive(Clone, Copy, Debug, Default, PartialEq, Eq)]
+pub struct Circuit {
+    pub wires: usize,
+    pub gates: usize,
 }
 
 // Reads a text into its gates' bytes, from the start of what is lent. A refusal leaves all as it was.
-pub fn read_text(text: &[u8], gates: &mut [u8]) -> TextReply
+#[tactic(auto, using(crate::proofs::TextWays::one_there))]
+pub fn read_text(text: &[u8], gates: &mut [u8]) -> Result<Circuit, Refusal>
     ensures { ReadText text.now gates.old gates.new result }
 {
-    let found = read_text_fault(text, gates.len());
-    if let Reply::Refused { number, place } = found {
-        return TextReply::Refused {
-            number: number,
-            place: place,
-        };
-    }
-    let n = byte_at(text, 0) as usize;
-    let m = store_gates(text, gates);
-    TextReply::Done { n: n, gates: m }
+    check_text(text, gates.len())?;
+    let wires = usize::from(pair(text[0], text[1]));
+    let gates = store_gates(&text[WIRES_LINE_BYTES..], gates);
+    Ok(Circuit { wires, gates })
 }

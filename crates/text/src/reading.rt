@@ -1,127 +1,92 @@
 // A text judged line by line, and its gates stored (document 01, "Text form").
-ghost use Rattle.std.specs.Prelude.{◌≡◌, ◌+◌, ◌<◌, ◌≤◌, drop, length};
-ghost use Rattle.std.proofs.lemmas.List.Edits.{sets};
-ghost use Rattle.circuit.specs.Limits.{gate_bytes, max_list_bytes};
+ghost use Rattle.std.specs.Prelude.{◌≡◌, ◌≤◌, drop, length};
+ghost use Rattle.circuit.specs.Limits.{max_list_bytes};
 ghost use Rattle.circuit.specs.Replies.{Done};
+ghost use Rattle.circuit.specs.Told.{told};
 ghost use Rattle.text.specs.Entry.{read_text_fault};
-ghost use Rattle.text.specs.Limits.{gate_digits, wires_line_bytes};
-ghost use Rattle.text.specs.Lines.{byte_at, first_formed, gate_decoded_at, lines_decoded, lines_of};
+ghost use Rattle.text.specs.Lines.{first_formed, gate_decoded_at, lines_decoded, lines_of, pair};
 ghost use Rattle.text.specs.Placed.{Stores};
 ghost use Rattle.text.specs.Text.{gates_fault, lines_fault};
 
 use crate::hex::{NEWLINE, is_digit, value_of};
 use crate::limits::{GATE_DIGITS, GATE_LINE_BYTES, WIRES_DIGITS, WIRES_LINE_BYTES};
-use circuit::Reply;
+use circuit::faults::{Fault, Refusal};
+use circuit::gates::Gate;
 use circuit::limits::{GATE_BYTES, MAX_GATES, MAX_LIST_BYTES};
-use judges::faults::{LIST_LENGTH, MALFORMED, short_fault, wires_fault};
+use judges::faults::{check_room, check_wires};
 
 // The first fault of a call: 8 by the length of the gates lent, then that of the text.
-pub fn read_text_fault(text: &[u8], lent: usize) -> Reply
-    ensures { result ≡ read_text_fault lent text.now }
+pub fn check_text(text: &[u8], lent: usize) -> Result<(), Refusal>
+    ensures { told result ≡ read_text_fault lent text.now }
 {
-    let fault = short_fault(lent, MAX_LIST_BYTES);
-    if fault != 0 {
-        return Reply::Refused {
-            number: fault,
-            place: 0,
-        };
-    }
-    text_fault(text)
+    check_room(lent, MAX_LIST_BYTES)?;
+    check_lines(text)
 }
 
 // The first fault of a text: of line one its form, then the count; then the gate lines.
-fn text_fault(text: &[u8]) -> Reply
-    ensures { result ≡ lines_fault (lines_of text.now) }
+#[tactic(auto, using(crate::proofs::TextFaults::one_long))]
+fn check_lines(text: &[u8]) -> Result<(), Refusal>
+    ensures { told result ≡ lines_fault (lines_of text.now) }
 {
-    if !line_formed(text, 0, WIRES_DIGITS) {
-        return Reply::Refused {
-            number: MALFORMED,
+    if !line_formed(text, WIRES_DIGITS) {
+        return Err(Refusal {
+            fault: Fault::Malformed,
             place: 1,
-        };
+        });
     }
-    let fault = wires_fault(byte_at(text, 0) as usize);
-    if fault != 0 {
-        return Reply::Refused {
-            number: fault,
-            place: 0,
-        };
-    }
-    gates_fault(text)
+    check_wires(usize::from(pair(text[0], text[1])))?;
+    check_gate_lines(&text[WIRES_LINE_BYTES..])
 }
 
 // The gate lines in order. Gate line i, counted from 0, is line i + 2 of the text.
-fn gates_fault(text: &[u8]) -> Reply
-    requires { wires_line_bytes ≤ length text.now }
-    ensures { result ≡ gates_fault 0 (lines_of (drop wires_line_bytes text.now)) }
+fn check_gate_lines(lines: &[u8]) -> Result<(), Refusal>
+    ensures { told result ≡ gates_fault 0 (lines_of lines.now) }
 {
-    let mut i: usize = 0;
-    let mut at = WIRES_LINE_BYTES;
-    while at < text.len() {
+    for (i, line) in lines.chunks(GATE_LINE_BYTES).enumerate() {
         if i == MAX_GATES {
-            return Reply::Refused {
-                number: LIST_LENGTH,
-                place: 0,
-            };
+            return Err(Refusal::from(Fault::ListLength));
         }
-        if !line_formed(text, at, GATE_DIGITS) {
-            return Reply::Refused {
-                number: MALFORMED,
+        if !line_formed(line, GATE_DIGITS) {
+            return Err(Refusal {
+                fault: Fault::Malformed,
                 place: i + 2,
-            };
+            });
         }
-        at += GATE_LINE_BYTES;
-        i += 1;
     }
-    Reply::Done
+    Ok(())
 }
 
-// Whether the line from `at` on is that many digits and a newline.
-fn line_formed(text: &[u8], at: usize, digits: usize) -> bool
-    requires { at ≤ length text.now }
-    ensures { result ≡ first_formed digits (lines_of (drop at text.now)) }
+// Whether the first line is that many digits and a newline.
+fn line_formed(text: &[u8], digits: usize) -> bool
+    ensures { result ≡ first_formed digits (lines_of text.now) }
 {
-    if text.len() - at <= digits {
-        return false;
-    }
-    let mut j: usize = 0;
-    while j < digits {
-        if !is_digit(text[at + j]) {
-            return false;
-        }
-        j += 1;
-    }
-    text[at + digits] == NEWLINE
+    text.len() > digits && text[digits] == NEWLINE && text[..digits].iter().all(|&b| is_digit(b))
 }
 
-// Stores the gates of a text without a fault from the start of what is lent, and gives their number.
-pub fn store_gates(text: &[u8], gates: &mut [u8]) -> usize
-    requires { (max_list_bytes ≤ length gates.old) × (gates_fault 0 (lines_of (drop wires_line_bytes text.now)) ≡ Done) }
-    ensures { Stores gates.old (lines_decoded (lines_of (drop wires_line_bytes text.now))) gates.new result }
+// Stores the gates of lines without a fault from the start of what is lent, and gives their number.
+pub fn store_gates(lines: &[u8], gates: &mut [u8]) -> usize
+    requires { (max_list_bytes ≤ length gates.old) × (gates_fault 0 (lines_of lines.now) ≡ Done) }
+    ensures { Stores gates.old (lines_decoded (lines_of lines.now)) gates.new result }
 {
-    let mut i: usize = 0;
-    let mut at = WIRES_LINE_BYTES;
-    while at < text.len() {
-        store_gate(text, at, gates, GATE_BYTES * i);
-        at += GATE_LINE_BYTES;
-        i += 1;
+    let (lines, _) = lines.as_chunks::<GATE_LINE_BYTES>();
+    for (i, line) in lines.iter().enumerate() {
+        let at = GATE_BYTES * i;
+        gates[at..at + GATE_BYTES].copy_from_slice(&gate_of(line));
     }
-    i
+    lines.len()
 }
 
-// The gate whose line starts at `at`.
-fn store_gate(text: &[u8], at: usize, gates: &mut [u8], j: usize)
-    requires { (at + gate_digits < length text.now) × (j + gate_bytes ≤ length gates.old) }
-    ensures { gates.new ≡ sets gates.old j (gate_decoded_at text.now at) }
+// The gate that a line stands for.
+fn gate_of(line: &[u8; GATE_LINE_BYTES]) -> Gate
+    ensures { result ≡ gate_decoded_at line.now 0 }
 {
-    gates[j] = byte_at(text, at);
-    gates[j + 1] = byte_at(text, at + 2);
-    gates[j + 2] = byte_at(text, at + 4);
+    let &[k, l, a, b, c, d, _] = line;
+    [pair(k, l), pair(a, b), pair(c, d)]
 }
 
-// The byte that the two digits from `at` on stand for.
-pub fn byte_at(text: &[u8], at: usize) -> u8
-    requires { at + 1 < length text.now }
-    ensures { result ≡ byte_at text.now at }
+// The byte that two digits stand for.
+pub fn pair(high: u8, low: u8) -> u8
+    ensures { result ≡ pair high low }
 {
-    16 * value_of(text[at]) + value_of(text[at + 1])
+    16 * value_of(high) + value_of(low)
 }

@@ -1,19 +1,19 @@
 -- Each way out of `read_text` by its law.
-use Rattle.text.proofs.TextWays.{may_store, one_there, text_read, text_refused}
+use mathlib.Core.Path.{◌∙◌, ◌≡◌}
+use borrow.Author.Rules.{rules}
+use Rattle.std.specs.Prelude.{Err}
+use Rattle.text.proofs.TextWays.{may_store, text_read, text_refused}
 use Rattle.text.proofs.read_text.Goals as goal
 
-pub returns-in-Refused : goal.returns-in-Refused
-returns-in-Refused c =
-    text_refused _ _ c.read_text_fault-found.ensures c.in-Refused.is
+pub returns-in_err-check_text : goal.returns-in_err-check_text
+returns-in_err-check_text c =
+    let e : c.from_residual.result ≡ Err c.in_err-check_text.field-0.0 = search rules in
+    rw e (text_refused _ _ c.in_err-check_text.ensures)
 
-pub byte_at-n-requires : goal.byte_at-n-requires
-byte_at-n-requires c =
-    one_there c.args.text.now c.args.gates.now c.read_text_fault-found.ensures c.in_default.is
-
-pub store_gates-m-requires : goal.store_gates-m-requires
-store_gates-m-requires c =
-    may_store c.args.text.now c.args.gates.now c.read_text_fault-found.ensures c.in_default.is
+pub store_gates-gates-requires : goal.store_gates-gates-requires
+store_gates-gates-requires c =
+    may_store c.args.text.now c.args.gates.now c.in_ok-check_text.ensures
 
 pub returns : goal.returns
 returns c =
-    text_read _ _ c.read_text_fault-found.ensures c.in_default.is c.byte_at-n.ensures c.store_gates-m.ensures
+    text_read _ _ c.in_ok-check_text.ensures (c.from-wires.ensures ∙ c.pair.ensures) c.store_gates-gates.ensures

@@ -1,25 +1,30 @@
--- The digits passed are digits: the line has the form if the rest of it has.
+-- The newline at its place, and digits before it.
 use mathlib.Core.Path.{◌∙◌, sym}
 use native.Mathlib.Omega.{arith}
-use Rattle.text.proofs.LineForms.{digit_right, digit_wrong, digits_end, digits_none, too_short}
+use borrow.Author.Rules.{rules}
+use borrow.Author.Tests.{ltb-true, tests}
+use Rattle.std.proofs.lemmas.Iterator.{YieldsList-from_slice}
+use Rattle.std.proofs.lemmas.Iterator.Search.{all_from_yields_List}
+use Rattle.text.proofs.LineForms.{all_digits, not_ended, too_short}
+use Rattle.text.specs.Hex.{is_digit}
 use Rattle.text.proofs.reading.line_formed.Goals as goal
+use Rattle.text.proofs.reading.line_formed.Goals.{else-text-digits, then-text-digits}
 
-pub returns-then-text-at : goal.returns-then-text-at
-returns-then-text-at c =
-    too_short c.args.text.now c.args.at c.args.digits (omega arith)
+pub returns-then-text-digits-eq-NEWLINE : goal.returns-then-text-digits-eq-NEWLINE
+returns-then-text-digits-eq-NEWLINE c =
+    elim c.if-text-digits.branch [
+      | then-text-digits w ↦
+          all_from_yields_List is_digit _ _ c.all.result c.all.ensures.ran (YieldsList-from_slice _ cc) (λ x b q k. search (rules, tests))
+          ∙ all_digits c.args.text.now c.args.digits w.if-text-digits.true (sym w.value-is ∙ c.if-text-digits-eq-NEWLINE.true)
+      | else-text-digits w ↦
+          absurd (omega (arith, ltb-true c.args.digits _ (sym w.value-is ∙ c.if-text-digits-eq-NEWLINE.true)))
+    ]
 
-pub loop-j-init : goal.loop-j-init
-loop-j-init c =
-    digits_none c.args.text.now c.args.at c.args.digits (omega arith)
-
-pub returns-then-not-is_digit : goal.returns-then-not-is_digit
-returns-then-not-is_digit c =
-    digit_wrong c.loop-j.invariant (omega arith) (sym c.is_digit.ensures ∙ c.if-not-is_digit.true)
-
-pub loop-j-preserved : goal.loop-j-preserved
-loop-j-preserved c =
-    digit_right c.loop-j.invariant (omega arith) (sym c.is_digit.ensures ∙ c.if-not-is_digit.false)
-
-pub returns : goal.returns
-returns c =
-    digits_end c.loop-j.invariant (omega arith)
+pub returns-else-text-digits-eq-NEWLINE : goal.returns-else-text-digits-eq-NEWLINE
+returns-else-text-digits-eq-NEWLINE c =
+    elim c.if-text-digits.branch [
+      | then-text-digits w ↦
+          c.if-text-digits-eq-NEWLINE.false
+          ∙ not_ended c.args.text.now c.args.digits w.if-text-digits.true (sym w.value-is ∙ c.if-text-digits-eq-NEWLINE.false)
+      | else-text-digits w ↦ c.if-text-digits-eq-NEWLINE.false ∙ too_short c.args.text.now c.args.digits w.if-text-digits.false
+    ]

@@ -1,20 +1,31 @@
 -- What is left of the lines, stored behind what has been, gives all of it.
+use mathlib.Core.Path.{◌∙◌}
+use Prim.Native.Nat.{◌*◌, ◌+◌, ◌<◌, ◌≤◌}
 use native.Mathlib.Omega.{arith}
-use Rattle.text.proofs.Storing.{all_stored, gate_fits, gate_stored, gate_there, none_stored}
+use lib.ListN.{length}
+use borrow.Author.Rules.{rules}
+use Rattle.circuit.specs.Limits.{gate_bytes}
+use Rattle.text.specs.Limits.{gate_line_bytes}
+use Rattle.text.proofs.Storing.{all_stored, gate_fits, gate_of_line, gate_stored, none_stored, part_placed}
 use Rattle.text.proofs.reading.store_gates.Goals as goal
 
-pub loop-at-init : goal.loop-at-init
-loop-at-init c =
-    none_stored c.args.text.now c.args.gates.now c.requires.1
+pub loop-i-init : goal.loop-i-init
+loop-i-init c = none_stored c.args.lines.now c.args.gates.now c.requires.1
 
-pub store_gate-requires : goal.store_gate-requires
-store_gate-requires c =
-    (gate_there c.loop-at.invariant (omega arith), gate_fits c.loop-at.invariant (omega arith) c.requires.0)
+pub slice_bounds-copy_from_slice-end : goal.slice_bounds-copy_from_slice-end
+slice_bounds-copy_from_slice-end c =
+    let more : gate_line_bytes * c.loop-i.i < length c.args.lines.now = omega (arith, c.as_chunks.ensures.front_len) in
+    let fits : gate_bytes * c.loop-i.i + gate_bytes ≤ length c.loop-i.gates = gate_fits c.loop-i.invariant more c.requires.0 in
+    search rules
 
-pub loop-at-preserved : goal.loop-at-preserved
-loop-at-preserved c =
-    gate_stored c.loop-at.invariant (omega arith) c.store_gate.ensures
+pub loop-i-preserved : goal.loop-i-preserved
+loop-i-preserved c =
+    let few = c.as_chunks.ensures.front_len in
+    gate_stored c.loop-i.invariant (omega arith) c.requires.0
+    (part_placed c.loop-i.gates _ _ (gate_bytes * c.loop-i.i) (gate_bytes * c.loop-i.i + gate_bytes)
+    (c.copy_from_slice.ensures.after ∙ c.gate_of.ensures ∙ gate_of_line c.args.lines.now c.loop-i.i c.as_chunks.ensures.front (omega arith))
+    (omega arith))
 
 pub returns : goal.returns
 returns c =
-    all_stored c.loop-at.invariant (omega arith) c.requires.0
+    all_stored c.loop-i.invariant c.as_chunks.ensures.front_len (omega arith) (omega arith) c.requires.0
