@@ -4,11 +4,14 @@ use mathlib.Core.Path.{◌∙◌, ◌≡◌, ap, subst, sym}
 use Prim.Native.Nat.{◌≤◌, ℕ}
 use native.Mathlib.Omega.{arith}
 use lib.ListN.{length, length-append}
+use Rattle.std.specs.Prelude.{Err, Ok, Result}
 use Rattle.circuit.proofs.Bytes.{gates_of_bytes}
 use Rattle.circuit.proofs.Judging.{formed_done, refused_not_done, short_well}
 use Rattle.circuit.specs.Faults.{AllWellFormed, call_reply, first_fault}
 use Rattle.circuit.specs.Gate.{Gate, bytes_of, gates_of}
 use Rattle.circuit.specs.Replies.{Reply}
+use Rattle.circuit.specs.Told.{number}
+use Rattle.circuit.specs.declared.faults.Refusal.{Refusal}
 use Rattle.text.specs.Limits.{reply_bytes}
 use Rattle.text.specs.Text.{Sayable, Text, circuit, read_text}
 use Rattle.text.specs.Written.{counts_line, gate_lines, wires_line}
@@ -19,8 +22,6 @@ use Rattle.answer.proofs.AnswerLaws.{printed_reads_back}
 use Rattle.again.specs.Texts.{AnswersAgain, PrintsAgain, without_counts}
 use Rattle.answer.specs.Entry.{AnswerText, WritesPrinted}
 use Rattle.answer.specs.Printed.{Prints, PrintsGates, PrintsTrim}
-use Rattle.answer.specs.declared.Answered.{Answered}
-use Rattle.answer.specs.declared.Answered.TheVariants.{Done, Refused}
 
 -- a list without a fault is answered by a trim
 pub trim_of : {n : ℕ} {C : List Gate} {bytes : List ℕ} → AllWellFormed n C → PrintsGates (first_fault n 0 C) n C bytes
@@ -66,18 +67,18 @@ module _ (n : ℕ) (list : List ℕ) (said : Sayable n list) (printed : List ℕ
         ∙ sym (ap length p.lines)
 
   -- another call, with n and the gates
-  pub answered : (out out' : List ℕ) (r : Answered) → reply_bytes ≤ length out → AnswerText (without_counts printed) out out' r
+  pub answered : (out out' : List ℕ) (r : Result ℕ Refusal) → reply_bytes ≤ length out → AnswerText (without_counts printed) out out' r
       → AnswersAgain n (gates_of list) printed out out' r
-  answered out out' (Refused number place) room a =
-      absurd (refused_not_done number place (a.reply ∙ ap call_reply (short_well (length out) reply_bytes room)))
-  answered out out' (Done count) room a = left a.out_left
+  answered out out' (Err refusal) room a =
+      absurd (refused_not_done (number refusal.fault) refusal.place (a.reply ∙ ap call_reply (short_well (length out) reply_bytes room)))
+  answered out out' (Ok count) room a = left a.out_left
     where
       left : WritesPrinted (read_text (without_counts printed)) out out' count
-          → AnswersAgain n (gates_of list) printed out out' (Done count)
+          → AnswersAgain n (gates_of list) printed out out' (Ok count)
       left (again, q, w) =
           record {
             again = again;
             prints = prints_again again q;
-            reply = ap (λ (k : ℕ). Done k) (w.onward ∙ omega (arith, as_long again q));
+            reply = ap (λ (k : ℕ). Ok k) (w.onward ∙ omega (arith, as_long again q));
             out_left = w.written;
           }

@@ -1,13 +1,12 @@
 -- Document 02, 2.2, of the text form: the printed n and gates of an earlier reply, given as a text.
-use Rattle.std.specs.Prelude.{List, ◌++◌, ◌≡◌, ◌+◌, ℕ, drop, length, take}
+use Rattle.std.specs.Prelude.{List, Ok, Result, ◌++◌, ◌≡◌, ◌+◌, ℕ, drop, length, take}
 use Rattle.circuit.specs.Gate.{Gate}
 use Rattle.circuit.specs.Lent.{placed}
+use Rattle.circuit.specs.declared.faults.Refusal.{Refusal}
 use Rattle.text.specs.Limits.{counts_line_bytes, wires_line_bytes}
 use Rattle.text.specs.Written.{counts_line, gate_lines, wires_line}
 use Rattle.trimmed.specs.Again.{TrimmedAgain}
 use Rattle.answer.specs.Printed.{PrintsTrim}
-use Rattle.answer.specs.declared.Answered.{Answered}
-use Rattle.answer.specs.declared.Answered.TheVariants.{Done}
 
 -- n and the gates of a reply: all of it but its second line, that of the counts
 abbrev pub without_counts : List ℕ → List ℕ
@@ -23,9 +22,9 @@ pub record PrintsAgain (n : ℕ) (C : List Gate) (printed again : List ℕ) : Ty
   pub lines : again ≡ wires_line n ++ counts_line first.counts.tout first.counts.tout first.counts.tout 0 ++ gate_lines first.D
 
 -- `answer`, called with n and the gates of what was printed for C and with these lent bytes, replies r and leaves out'
-pub record AnswersAgain (n : ℕ) (C : List Gate) (printed out out' : List ℕ) (r : Answered) : Type 0 where
+pub record AnswersAgain (n : ℕ) (C : List Gate) (printed out out' : List ℕ) (r : Result ℕ Refusal) : Type 0 where
   pub again : List ℕ
   pub prints : PrintsAgain n C printed again
   -- as many bytes, from the start of those lent, and all else as it was
-  pub reply : r ≡ Done (length printed)
+  pub reply : r ≡ Ok (length printed)
   pub out_left : out' ≡ placed out 0 again

@@ -1,59 +1,58 @@
 -- What an exported function promises: the entry's own promise, and its reply as numbers. Document 01's number and place of a reply, and its
 -- values, are defined beside the entry; number 0 and place 0 say done.
-use Rattle.std.specs.Prelude.{List, ◌≡◌, ◌*◌, ◌+◌, ℕ, leb, drop, length, take}
+use Rattle.std.specs.Prelude.{List, Result, ◌≡◌, ◌*◌, ◌+◌, ℕ, leb, drop, length, take}
 use Rattle.answer.specs.Entry as answer
-use Rattle.answer.specs.declared.Answered.{Answered}
 use Rattle.carry.specs.Entry as carry
-use Rattle.carry.specs.declared.Moved.{Moved}
 use Rattle.circuit.specs.Limits.{move_cells}
 use Rattle.circuit.specs.Read.{either}
-use Rattle.circuit.specs.Replies.{number_of, place_of}
-use Rattle.circuit.specs.Replies.{Reply}
+use Rattle.circuit.specs.Replies.{Reply, number_of, place_of}
+use Rattle.circuit.specs.Told.{told}
+use Rattle.circuit.specs.declared.faults.Refusal.{Refusal}
 use Rattle.compare.specs.Entry as compare
 use Rattle.compare.specs.declared.Compared.{Compared}
 use Rattle.finder.specs.Entry as find
-use Rattle.finder.specs.declared.Finding.{Finding}
 use Rattle.moves.specs.Log.{move_at}
+use Rattle.moves.specs.declared.Sought.{Sought}
 use Rattle.synth.specs.Entry as write
-use Rattle.synth.specs.declared.Written.{Written}
 use Rattle.text.specs.Entry as text
-use Rattle.text.specs.declared.TextReply.{TextReply}
+use Rattle.text.specs.declared.Circuit.{Circuit}
+use Rattle.trimmed.specs.declared.Counts.{Counts}
 use Rattle.trimmer.specs.Entry as trim
-use Rattle.trimmer.specs.declared.TrimReply.{TrimReply}
 
 -- the entry replied as its promise says; of its reply, told in document 01's words, these are the number and the place
-pub record Called (R : Type 0) (told : R → Reply) (Promise : R → Type 0) (number place : ℕ) : Type 0 where
-  pub reply : R
+pub record Called (A : Type 0) (Promise : Result A Refusal → Type 0) (number place : ℕ) : Type 0 where
+  pub reply : Result A Refusal
   pub promise : Promise reply
   pub number_is : number ≡ number_of (told reply)
   pub place_is : place ≡ place_of (told reply)
 
+-- the entries that reply with no value, whose promises speak of the reply as told
 abbrev pub InC : (Reply → Type 0) → ℕ → ℕ → Type 0
-InC = Called Reply (λ r. r)
+InC Promise = Called Unit (λ r. Promise (told r))
 
 -- compare: 1 where the lists act alike
-pub record CompareInC (Promise : Compared → Type 0) (number place same : ℕ) : Type 0 where
-  pub called : Called Compared compare.told Promise number place
+pub record CompareInC (Promise : Result Compared Refusal → Type 0) (number place same : ℕ) : Type 0 where
+  pub called : Called Compared Promise number place
   pub same_is : same ≡ compare.same_of called.reply
 
 -- carry_out: how many marks differ
-pub record CarryInC (Promise : Moved → Type 0) (number place differ : ℕ) : Type 0 where
-  pub called : Called Moved carry.told Promise number place
+pub record CarryInC (Promise : Result ℕ Refusal → Type 0) (number place differ : ℕ) : Type 0 where
+  pub called : Called ℕ Promise number place
   pub differ_is : differ ≡ carry.differ_of called.reply
 
 -- find: 1 where a move was found
-pub record FindInC (Promise : Finding → Type 0) (number place found : ℕ) : Type 0 where
-  pub called : Called Finding find.told Promise number place
+pub record FindInC (Promise : Result Sought Refusal → Type 0) (number place found : ℕ) : Type 0 where
+  pub called : Called Sought Promise number place
   pub found_is : found ≡ find.found_of called.reply
 
 -- write: the number of gates
-pub record WriteInC (Promise : Written → Type 0) (number place gates : ℕ) : Type 0 where
-  pub called : Called Written write.told Promise number place
+pub record WriteInC (Promise : Result ℕ Refusal → Type 0) (number place gates : ℕ) : Type 0 where
+  pub called : Called ℕ Promise number place
   pub gates_is : gates ≡ write.count_of called.reply
 
 -- trim: the counts
-pub record TrimInC (Promise : TrimReply → Type 0) (number place tin odd tout moves gates : ℕ) : Type 0 where
-  pub called : Called TrimReply trim.told Promise number place
+pub record TrimInC (Promise : Result Counts Refusal → Type 0) (number place tin odd tout moves gates : ℕ) : Type 0 where
+  pub called : Called Counts Promise number place
   pub tin_is : tin ≡ (trim.counts_of called.reply).tin
   pub odd_is : odd ≡ (trim.counts_of called.reply).odd
   pub tout_is : tout ≡ (trim.counts_of called.reply).tout
@@ -61,14 +60,14 @@ pub record TrimInC (Promise : TrimReply → Type 0) (number place tin odd tout m
   pub gates_is : gates ≡ (trim.counts_of called.reply).gates
 
 -- read_text: the wire count and the number of gates
-pub record TextInC (Promise : TextReply → Type 0) (number place wires gates : ℕ) : Type 0 where
-  pub called : Called TextReply text.told Promise number place
+pub record TextInC (Promise : Result Circuit Refusal → Type 0) (number place wires gates : ℕ) : Type 0 where
+  pub called : Called Circuit Promise number place
   pub wires_is : wires ≡ text.wires_of called.reply
   pub gates_is : gates ≡ text.count_of called.reply
 
 -- answer: the bytes of the reply
-pub record AnswerInC (Promise : Answered → Type 0) (number place bytes : ℕ) : Type 0 where
-  pub called : Called Answered answer.told Promise number place
+pub record AnswerInC (Promise : Result ℕ Refusal → Type 0) (number place bytes : ℕ) : Type 0 where
+  pub called : Called ℕ Promise number place
   pub bytes_is : bytes ≡ answer.bytes_written called.reply
 
 -- move_at: the part told by where it starts and how long it is; both 0 where the log is too short for move k

@@ -18,8 +18,7 @@ ghost use Rattle.capi.specs.InC.{InC, CompareInC, CarryInC, FindInC, WriteInC, T
 use circuit::limits::{Coefficient, MOVE_CELLS, Mark, MoveCell, Parity, Weight};
 use creply::{
     SulmedraAnswered, SulmedraCarried, SulmedraCompared, SulmedraFound, SulmedraPart,
-    SulmedraReply, SulmedraText, SulmedraTrimmed, SulmedraWritten, answered_in_c, carried_in_c,
-    compared_in_c, found_in_c, in_c, text_in_c, trimmed_in_c, written_in_c,
+    SulmedraReply, SulmedraText, SulmedraTrimmed, SulmedraWritten,
 };
 
 // `reader::read`.
@@ -33,7 +32,7 @@ pub extern "C" fn sulmedra_read(
     ensures { InC (ReadList n gates.now weights.old rows.old weights.new
         rows.new) result.number result.place }
 {
-    in_c(reader::read(n, gates, weights, rows))
+    reader::read(n, gates, weights, rows).into()
 }
 
 // `weights::odd_set`.
@@ -45,7 +44,7 @@ pub extern "C" fn sulmedra_odd_set(
 ) -> SulmedraReply
     ensures { InC (OddSetOf n weights.now marks.old marks.new) result.number result.place }
 {
-    in_c(weights::odd_set(n, weights, marks))
+    weights::odd_set(n, weights, marks).into()
 }
 
 // `weights::coefficients`.
@@ -60,7 +59,7 @@ pub extern "C" fn sulmedra_coefficients(
     ensures { InC (CoefficientsOf n weights.now l.old q.old c.old
         l.new q.new c.new) result.number result.place }
 {
-    in_c(weights::coefficients(n, weights, l, q, c))
+    weights::coefficients(n, weights, l, q, c).into()
 }
 
 // `rests::new_weights`.
@@ -74,7 +73,7 @@ pub extern "C" fn sulmedra_new_weights(
     ensures { InC (NewWeightsOf n weights.now marks.now out.old out.new)
         result.number result.place }
 {
-    in_c(rests::new_weights(n, weights, marks, out))
+    rests::new_weights(n, weights, marks, out).into()
 }
 
 // `compare::compare`.
@@ -83,7 +82,7 @@ pub extern "C" fn sulmedra_compare(n: usize, first: &[u8], second: &[u8]) -> Sul
     ensures { CompareInC (comparing.ComparesLists n first.now second.now)
         result.number result.place result.same }
 {
-    compared_in_c(compare::compare(n, first, second))
+    compare::compare(n, first, second).into()
 }
 
 // `carry::carry_out`.
@@ -96,7 +95,7 @@ pub extern "C" fn sulmedra_carry_out(
     ensures { CarryInC (carrying.CarriesOut n marks.old cells.now marks.new)
         result.number result.place result.differ }
 {
-    carried_in_c(carry::carry_out(n, marks, cells))
+    carry::carry_out(n, marks, cells).into()
 }
 
 // `finder::find`.
@@ -105,7 +104,7 @@ pub extern "C" fn sulmedra_find(n: usize, marks: &[Mark], cells: &mut [MoveCell]
     ensures { FindInC (find.FindMove n marks.now cells.old cells.new)
         result.number result.place result.found }
 {
-    found_in_c(finder::find(n, marks, cells))
+    finder::find(n, marks, cells).into()
 }
 
 // `synth::write`.
@@ -119,7 +118,7 @@ pub extern "C" fn sulmedra_write(
     ensures { WriteInC (write.WriteList n weights.now rows.now gates.old gates.new)
         result.number result.place result.gates }
 {
-    written_in_c(synth::write(n, weights, rows, gates))
+    synth::write(n, weights, rows, gates).into()
 }
 
 // `trimmer::trim`.
@@ -133,7 +132,7 @@ pub extern "C" fn sulmedra_trim(
     ensures { TrimInC (trim.TrimList n gates.now out.old log.old out.new
         log.new) result.number result.place result.tin result.odd result.tout result.moves result.gates }
 {
-    trimmed_in_c(trimmer::trim(n, gates, out, log))
+    trimmer::trim(n, gates, out, log).into()
 }
 
 // `carry::move_at`, as a place in the log.
@@ -160,7 +159,7 @@ pub extern "C" fn sulmedra_read_text(text: &[u8], gates: &mut [u8]) -> SulmedraT
     ensures { TextInC (read_text.ReadText text.now gates.old gates.new)
         result.number result.place result.wires result.gates }
 {
-    text_in_c(text::read_text(text, gates))
+    text::read_text(text, gates).into()
 }
 
 // `answer::answer`.
@@ -169,5 +168,5 @@ pub extern "C" fn sulmedra_answer(text: &[u8], out: &mut [u8]) -> SulmedraAnswer
     ensures { AnswerInC (answers.AnswerText text.now out.old out.new)
         result.number result.place result.bytes }
 {
-    answered_in_c(answer::answer(text, out))
+    answer::answer(text, out).into()
 }

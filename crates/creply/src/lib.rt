@@ -1,9 +1,11 @@
 // Replies as C has them: a struct of numbers for each, and what an entry's reply comes to in it. The fault's number, 0 for none, and its
-// place come first in each; a part of a log has no fault. Internal: `capi` exports the functions that give these.
+// place come first in each; a part of a log has no fault. C gives each reply a name and fields of its own, so that three structs of a
+// number beside the fault stay three. Internal: `capi` exports the functions that give these.
 #![tactic(auto)]
 
 ghost use Rattle.std.specs.Prelude.{◌≡◌};
 ghost use Rattle.circuit.specs.Replies.{number_of, place_of};
+ghost use Rattle.circuit.specs.Told.{told};
 ghost use Rattle.compare.specs.Entry as comparing;
 ghost use Rattle.carry.specs.Entry as carrying;
 ghost use Rattle.finder.specs.Entry as find;
@@ -12,14 +14,11 @@ ghost use Rattle.trimmer.specs.Entry as trim;
 ghost use Rattle.text.specs.Entry as read_text;
 ghost use Rattle.answer.specs.Entry as answers;
 
-use answer::Answered;
-use carry::Moved;
-use circuit::Reply;
+use circuit::faults::Refusal;
 use compare::Compared;
-use finder::Finding;
-use synth::Written;
-use text::TextReply;
-use trimmer::TrimReply;
+use moves::Sought;
+use text::Circuit;
+use trimmed::Counts;
 
 #[repr(C)]
 #[derive(Drop)]
@@ -104,167 +103,127 @@ pub struct SulmedraAnswered {
     pub bytes: u64,
 }
 
-pub fn answered_in_c(reply: Answered) -> SulmedraAnswered
-    ensures { (result.number ≡ number_of (answers.told reply)) × (result.place ≡ place_of (answers.told reply))
-        × (result.bytes ≡ answers.bytes_written reply) }
+// The fault's number and its place, both 0 where there is none.
+fn fault_in_c<T>(reply: &Result<T, Refusal>) -> (u64, u64)
+    ensures { (result.0 ≡ number_of (told reply.now)) × (result.1 ≡ place_of (told reply.now)) }
 {
     match reply {
-        Answered::Done { bytes } => SulmedraAnswered {
-            number: 0,
-            place: 0,
-            bytes: bytes as u64,
-        },
-        Answered::Refused { number, place } => SulmedraAnswered {
-            number: number as u64,
-            place: place as u64,
-            bytes: 0,
-        },
+        Ok(_) => (0, 0),
+        Err(refusal) => (refusal.fault.number() as u64, refusal.place as u64),
     }
 }
 
-pub fn text_in_c(reply: TextReply) -> SulmedraText
-    ensures { (result.number ≡ number_of (read_text.told reply)) × (result.place ≡ place_of (read_text.told reply))
-        × (result.wires ≡ read_text.wires_of reply) × (result.gates ≡ read_text.count_of reply) }
-{
-    match reply {
-        TextReply::Done { n, gates } => SulmedraText {
-            number: 0,
-            place: 0,
-            wires: n as u64,
-            gates: gates as u64,
-        },
-        TextReply::Refused { number, place } => SulmedraText {
-            number: number as u64,
-            place: place as u64,
-            wires: 0,
-            gates: 0,
-        },
+impl From<Result<(), Refusal>> for SulmedraReply {
+    ghost from_gives = { λ reply c. (c.number ≡ number_of (told reply)) × (c.place ≡ place_of (told reply)) };
+
+    fn from(reply: Result<(), Refusal>) -> SulmedraReply {
+        let (number, place) = fault_in_c(&reply);
+        SulmedraReply { number, place }
     }
 }
 
-pub fn carried_in_c(reply: Moved) -> SulmedraCarried
-    ensures { (result.number ≡ number_of (carrying.told reply)) × (result.place ≡ place_of (carrying.told reply))
-        × (result.differ ≡ carrying.differ_of reply) }
-{
-    match reply {
-        Moved::Done { differ } => SulmedraCarried {
-            number: 0,
-            place: 0,
-            differ: differ as u64,
-        },
-        Moved::Refused { number, place } => SulmedraCarried {
-            number: number as u64,
-            place: place as u64,
-            differ: 0,
-        },
+impl From<Result<Compared, Refusal>> for SulmedraCompared {
+    ghost from_gives = { λ reply c. (c.number ≡ number_of (told reply)) × (c.place ≡ place_of (told reply))
+        × (c.same ≡ comparing.same_of reply) };
+
+    fn from(reply: Result<Compared, Refusal>) -> SulmedraCompared {
+        let (number, place) = fault_in_c(&reply);
+        SulmedraCompared {
+            number,
+            place,
+            same: (reply == Ok(Compared::Same)) as u64,
+        }
     }
 }
 
-pub fn compared_in_c(reply: Compared) -> SulmedraCompared
-    ensures { (result.number ≡ number_of (comparing.told reply)) × (result.place ≡ place_of (comparing.told reply))
-        × (result.same ≡ comparing.same_of reply) }
-{
-    match reply {
-        Compared::Same => SulmedraCompared {
-            number: 0,
-            place: 0,
-            same: 1,
-        },
-        Compared::Differ => SulmedraCompared {
-            number: 0,
-            place: 0,
-            same: 0,
-        },
-        Compared::Refused { number, place } => SulmedraCompared {
-            number: number as u64,
-            place: place as u64,
-            same: 0,
-        },
+impl From<Result<usize, Refusal>> for SulmedraCarried {
+    ghost from_gives = { λ reply c. (c.number ≡ number_of (told reply)) × (c.place ≡ place_of (told reply))
+        × (c.differ ≡ carrying.differ_of reply) };
+
+    fn from(reply: Result<usize, Refusal>) -> SulmedraCarried {
+        let (number, place) = fault_in_c(&reply);
+        SulmedraCarried {
+            number,
+            place,
+            differ: reply.unwrap_or(0) as u64,
+        }
     }
 }
 
-pub fn found_in_c(reply: Finding) -> SulmedraFound
-    ensures { (result.number ≡ number_of (find.told reply)) × (result.place ≡ place_of (find.told reply))
-        × (result.found ≡ find.found_of reply) }
-{
-    match reply {
-        Finding::Found => SulmedraFound {
-            number: 0,
-            place: 0,
-            found: 1,
-        },
-        Finding::Nothing => SulmedraFound {
-            number: 0,
-            place: 0,
-            found: 0,
-        },
-        Finding::Refused { number, place } => SulmedraFound {
-            number: number as u64,
-            place: place as u64,
-            found: 0,
-        },
+impl From<Result<Sought, Refusal>> for SulmedraFound {
+    ghost from_gives = { λ reply c. (c.number ≡ number_of (told reply)) × (c.place ≡ place_of (told reply))
+        × (c.found ≡ find.found_of reply) };
+
+    fn from(reply: Result<Sought, Refusal>) -> SulmedraFound {
+        let (number, place) = fault_in_c(&reply);
+        SulmedraFound {
+            number,
+            place,
+            found: (reply == Ok(Sought::Found)) as u64,
+        }
     }
 }
 
-pub fn written_in_c(reply: Written) -> SulmedraWritten
-    ensures { (result.number ≡ number_of (write.told reply)) × (result.place ≡ place_of (write.told reply))
-        × (result.gates ≡ write.count_of reply) }
-{
-    match reply {
-        Written::Done { count } => SulmedraWritten {
-            number: 0,
-            place: 0,
-            gates: count as u64,
-        },
-        Written::Refused { number, place } => SulmedraWritten {
-            number: number as u64,
-            place: place as u64,
-            gates: 0,
-        },
+impl From<Result<usize, Refusal>> for SulmedraWritten {
+    ghost from_gives = { λ reply c. (c.number ≡ number_of (told reply)) × (c.place ≡ place_of (told reply))
+        × (c.gates ≡ write.count_of reply) };
+
+    fn from(reply: Result<usize, Refusal>) -> SulmedraWritten {
+        let (number, place) = fault_in_c(&reply);
+        SulmedraWritten {
+            number,
+            place,
+            gates: reply.unwrap_or(0) as u64,
+        }
     }
 }
 
-pub fn trimmed_in_c(reply: TrimReply) -> SulmedraTrimmed
-    ensures { (result.number ≡ number_of (trim.told reply)) × (result.place ≡ place_of (trim.told reply))
-        × (result.tin ≡ (trim.counts_of reply).tin)
-        × (result.odd ≡ (trim.counts_of reply).odd) × (result.tout ≡ (trim.counts_of reply).tout)
-        × (result.moves ≡ (trim.counts_of reply).moves)
-        × (result.gates ≡ (trim.counts_of reply).gates) }
-{
-    match reply {
-        TrimReply::Done(counts) => SulmedraTrimmed {
-            number: 0,
-            place: 0,
+impl From<Result<Counts, Refusal>> for SulmedraTrimmed {
+    ghost from_gives = { λ reply c. (c.number ≡ number_of (told reply)) × (c.place ≡ place_of (told reply))
+        × (c.tin ≡ (trim.counts_of reply).tin) × (c.odd ≡ (trim.counts_of reply).odd) × (c.tout ≡ (trim.counts_of reply).tout)
+        × (c.moves ≡ (trim.counts_of reply).moves) × (c.gates ≡ (trim.counts_of reply).gates) };
+
+    fn from(reply: Result<Counts, Refusal>) -> SulmedraTrimmed {
+        let (number, place) = fault_in_c(&reply);
+        let counts = reply.unwrap_or_default();
+        SulmedraTrimmed {
+            number,
+            place,
             tin: counts.tin as u64,
             odd: counts.odd as u64,
             tout: counts.tout as u64,
             moves: counts.moves as u64,
             gates: counts.gates as u64,
-        },
-        TrimReply::Refused { number, place } => SulmedraTrimmed {
-            number: number as u64,
-            place: place as u64,
-            tin: 0,
-            odd: 0,
-            tout: 0,
-            moves: 0,
-            gates: 0,
-        },
+        }
     }
 }
 
-// A reply as two numbers.
-pub fn in_c(reply: Reply) -> SulmedraReply
-    ensures { (result.number ≡ number_of reply) × (result.place ≡ place_of reply) }
-{
-    match reply {
-        Reply::Done => SulmedraReply {
-            number: 0,
-            place: 0,
-        },
-        Reply::Refused { number, place } => SulmedraReply {
-            number: number as u64,
-            place: place as u64,
-        },
+impl From<Result<Circuit, Refusal>> for SulmedraText {
+    ghost from_gives = { λ reply c. (c.number ≡ number_of (told reply)) × (c.place ≡ place_of (told reply))
+        × (c.wires ≡ read_text.wires_of reply) × (c.gates ≡ read_text.count_of reply) };
+
+    fn from(reply: Result<Circuit, Refusal>) -> SulmedraText {
+        let (number, place) = fault_in_c(&reply);
+        let circuit = reply.unwrap_or_default();
+        SulmedraText {
+            number,
+            place,
+            wires: circuit.wires as u64,
+            gates: circuit.gates as u64,
+        }
+    }
+}
+
+impl From<Result<usize, Refusal>> for SulmedraAnswered {
+    ghost from_gives = { λ reply c. (c.number ≡ number_of (told reply)) × (c.place ≡ place_of (told reply))
+        × (c.bytes ≡ answers.bytes_written reply) };
+
+    fn from(reply: Result<usize, Refusal>) -> SulmedraAnswered {
+        let (number, place) = fault_in_c(&reply);
+        SulmedraAnswered {
+            number,
+            place,
+            bytes: reply.unwrap_or(0) as u64,
+        }
     }
 }

@@ -1,36 +1,29 @@
 -- The entry `trim`: its reply, and what it leaves in the lent gates and the lent log, for sound and faulty arguments alike.
-use Rattle.std.specs.Prelude.{List, ◌≡◌, ◌*◌, ◌≤◌, suc, zero, ℕ, length}
+use Rattle.std.specs.Prelude.{Err, List, Ok, Result, ◌≡◌, ◌*◌, ◌≤◌, suc, zero, ℕ, length}
 use Rattle.circuit.specs.Faults.{Accepted, list_reply, or_else, short_fault}
 use Rattle.circuit.specs.Gate.{Gate, gates_of}
 use Rattle.circuit.specs.Lent.{KeptFrom, front_gates}
 use Rattle.circuit.specs.Limits.{gate_bytes, log_cells, max_wires, move_cells, parities, write_bytes}
 use Rattle.circuit.specs.Read.{Reading, read, with_weights}
-use Rattle.circuit.specs.Replies.{number_of}
-use Rattle.circuit.specs.Replies as reply
-use Rattle.circuit.specs.Replies.{Reply}
+use Rattle.circuit.specs.Replies.{Reply, number_of}
+use Rattle.circuit.specs.Told.{told}
+use Rattle.circuit.specs.declared.faults.Refusal.{Refusal}
 use Rattle.phase.specs.NewWeights.{new_weights}
 use Rattle.trimmed.specs.Trimmed.{Trimmed, odd_set_of, weights_of}
 use Rattle.trimmed.specs.declared.Counts.{Counts}
 use Rattle.written.specs.Chosen.{chosen}
 use Rattle.written.specs.Wrote.{Wrote}
-use Rattle.trimmer.specs.declared.TrimReply.{TrimReply}
-use Rattle.trimmer.specs.declared.TrimReply.TheVariants.{Done, Refused}
 
 -- ---- the reply
-
--- each case in document 01's number and place: done, or the fault
-abbrev pub told : TrimReply → Reply
-told (Done counts) = reply.Done
-told (Refused number place) = reply.Refused number place
 
 -- all counts 0
 abbrev pub no_counts : Counts
 no_counts = record { tin = 0; odd = 0; tout = 0; moves = 0; gates = 0 }
 
 -- the counts, all 0 where it refused
-abbrev pub counts_of : TrimReply → Counts
-counts_of (Done counts) = counts
-counts_of (Refused number place) = no_counts
+abbrev pub counts_of : Result Counts Refusal → Counts
+counts_of (Ok counts) = counts
+counts_of (Err refusal) = no_counts
 
 -- 8, by the lengths of the gates lent and of the log lent
 abbrev pub trim_lent : ℕ → ℕ → ℕ
@@ -79,6 +72,6 @@ TrimLeft zero counts n bytes out log out' log' = DoneWith n bytes out log out' l
 TrimLeft (suc fault) counts n bytes out log out' log' = (out' ≡ out) × (log' ≡ log)
 
 -- `trim`, called with the bytes of C, these gates and this log, replies r and leaves out' and log'
-pub record TrimList (n : ℕ) (bytes out log out' log' : List ℕ) (r : TrimReply) : Type 0 where
+pub record TrimList (n : ℕ) (bytes out log out' log' : List ℕ) (r : Result Counts Refusal) : Type 0 where
   pub reply : told r ≡ verdict n bytes (length out) (length log)
   pub left : TrimLeft (number_of (told r)) (counts_of r) n bytes out log out' log'

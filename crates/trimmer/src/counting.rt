@@ -11,8 +11,8 @@ pub fn members_of(n: usize, marks: &[Mark; TABLE_BYTES]) -> usize
     ensures { result ≡ member_count marks.now }
 {
     let mut count: usize = 0;
-    for p in 0..1 << n {
-        count += marks[p] as usize;
+    for &mark in &marks[..1 << n] {
+        count += mark as usize;
     }
     count
 }

@@ -9,36 +9,29 @@ ghost use Rattle.trimmer.specs.Entry.{DoneWith, TrimList, Trimmable};
 pub mod counting;
 pub mod faults;
 
-use circuit::Reply;
+use circuit::faults::Refusal;
 use circuit::limits::{Mark, MoveCell, TABLE_BYTES, Weight};
 use counting::members_of;
-use faults::trim_lent;
-use judges::faults::list_reply;
+use faults::check_trim_lent;
+use judges::faults::check_list;
 use moving::make_moves;
-use reader::reading::read_gates;
+use reader::reading::{ListRead, read_gates};
 use rests::weighing::put_new_weights;
 use synth::write_sound;
 use trimmed::Counts;
 use weights::put_odd_set;
 
-#[derive(Drop)]
-pub enum TrimReply {
-    Done(Counts),
-    Refused { number: u8, place: usize },
-}
-
 // Trims a circuit: writes D into `out` and the moves into `log`. A refusal leaves both as they were.
-pub fn trim(n: usize, gates: &[u8], out: &mut [u8], log: &mut [MoveCell]) -> TrimReply
+pub fn trim(
+    n: usize,
+    gates: &[u8],
+    out: &mut [u8],
+    log: &mut [MoveCell],
+) -> Result<Counts, Refusal>
     ensures { TrimList n gates.now out.old log.old out.new log.new result }
 {
-    let found = list_reply(n, gates, trim_lent(out.len(), log.len()));
-    if let Reply::Refused { number, place } = found {
-        return TrimReply::Refused {
-            number: number,
-            place: place,
-        };
-    }
-    TrimReply::Done(trim_accepted(n, gates, out, log))
+    check_list(n, gates, check_trim_lent(out.len(), log.len()))?;
+    Ok(trim_accepted(n, gates, out, log))
 }
 
 // The trim of an accepted circuit.
@@ -46,23 +39,24 @@ fn trim_accepted(n: usize, gates: &[u8], out: &mut [u8], log: &mut [MoveCell]) -
     requires { Trimmable n gates.now out.old log.old }
     ensures { DoneWith n gates.now out.old log.old out.new log.new result }
 {
-    let t = read_gates(n, gates);
-    let w = t.weights;
-    let rows = t.rows;
-    let tin = t.tcount;
+    let ListRead {
+        weights,
+        rows,
+        tcount: tin,
+    } = read_gates(n, gates);
     let mut marks = [0 as Mark; TABLE_BYTES];
-    put_odd_set(&w, &mut marks);
+    put_odd_set(&weights, &mut marks);
     let odd = members_of(n, &marks);
     let moves = make_moves(n, &mut marks, log);
     let tout = members_of(n, &marks);
     let mut new = [0 as Weight; TABLE_BYTES];
-    put_new_weights(n, &w, &marks, &mut new);
-    let count = write_sound(n, &new, &rows, out);
+    put_new_weights(n, &weights, &marks, &mut new);
+    let gates = write_sound(n, &new, &rows, out);
     Counts {
-        tin: tin,
-        odd: odd,
-        tout: tout,
-        moves: moves,
-        gates: count,
+        tin,
+        odd,
+        tout,
+        moves,
+        gates,
     }
 }
