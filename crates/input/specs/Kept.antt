@@ -1,4 +1,5 @@
--- What a program keeps of its input: how many bytes of a buffer, or why a read failed. Which bytes the system puts there, no contract can say.
+-- What a program keeps of its input: how many bytes of a buffer, or why a read failed. Which bytes the system puts there, no contract can
+-- say.
 use Rattle.std.specs.Prelude.{Err, List, None, Ok, Option, Result, Some, ◌≡◌, ℕ, ◌<◌, ◌≤◌, length, take}
 use Rattle.std.specs.Io.KnownBytes.{Consumes, IsAtEnd}
 

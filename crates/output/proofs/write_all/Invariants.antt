@@ -4,7 +4,8 @@ use Rattle.std.specs.Io.KnownBytes.{Appends}
 use Rattle.output.proofs.write_all.Given as goal
 
 abbrev pub invariant-loop-rest : goal.invariant-loop-rest
-invariant-loop-rest g l = (done : ℕ) × (l.rest ≡ drop done l.bytes) × Appends (g.W.Write.contents l.initial.to) (g.W.Write.contents l.to) (take done l.bytes)
+invariant-loop-rest g l =
+    (done : ℕ) × (l.rest ≡ drop done l.bytes) × Appends (g.W.Write.contents l.initial.to) (g.W.Write.contents l.to) (take done l.bytes)
 
 abbrev pub decreases-loop-rest : goal.decreases-loop-rest
 decreases-loop-rest g l = length l.rest
