@@ -75,7 +75,8 @@ reads_end {r = r} items i past to =
 
 -- ---- the first rows
 
-pub first_all : (N n i : ℕ) (rows : List ℕ) → length rows ≡ N → N ≤ i → ((k : ℕ) → k < i → get_or rows k 0 ≡ first_row n k) → rows ≡ first_rows N n
+pub first_all : (N n i : ℕ) (rows : List ℕ) → length rows ≡ N → N ≤ i → ((k : ℕ) → k < i → get_or rows k 0 ≡ first_row n k)
+    → rows ≡ first_rows N n
 unfolding first_rows
 first_all N n i rows long all each =
     ext_get_or 0 rows (tabulate N (first_row n)) (long ∙ sym (length-tabulate N (first_row n)))
