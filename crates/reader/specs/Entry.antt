@@ -3,7 +3,7 @@ use Rattle.std.specs.Prelude.{List, ◌≡◌, ◌<◌, ℕ, get_or, length}
 use Rattle.circuit.specs.Faults.{Accepted, lent_fault, list_reply, or_else}
 use Rattle.circuit.specs.Gate.{gates_of, t_gates}
 use Rattle.circuit.specs.Lent.{read_bytes, reading_lent, rows_lent, weights_lent}
-use Rattle.circuit.specs.Limits.{max_wires, parities, row_cells, table_bytes}
+use Rattle.circuit.specs.Limits.{parities, row_cells, table_bytes}
 use Rattle.circuit.specs.Read.{Reading}
 use Rattle.circuit.specs.Replies.{after, number_of}
 use Rattle.circuit.specs.Replies.{Reply}
@@ -34,15 +34,8 @@ pub record ReadInto (n : ℕ) (bytes weights rows : List ℕ) : Type 0 where
   pub weights_fit : length weights ≡ table_bytes
   pub rows_fit : length rows ≡ row_cells
 
--- rows that a CNOT from a to b can join
-pub record Joinable (rows : List ℕ) (a b : ℕ) : Type 0 where
-  pub long : length rows ≡ max_wires
-  pub a_wire : a < max_wires
-  pub b_wire : b < max_wires
-
 -- weights to which phase v can be added at parity p, which is its place
 pub record Addable (weights : List ℕ) (p v : ℕ) : Type 0 where
-  pub long : length weights ≡ table_bytes
   pub inside : p < parities
   pub small : get_or weights p 0 < 8
   pub phase : v < 8

@@ -3,40 +3,36 @@
 #![tactic(auto)]
 
 ghost use Rattle.std.specs.Prelude.{◌≡◌};
+ghost use Rattle.circuit.specs.Told.{fault_told, told};
 ghost use Rattle.reader.specs.Entry.{ReadInto, ReadList, ReadOut, read_lent};
 
 pub mod reading;
 
-use circuit::Reply;
-use circuit::copying::{copy_bytes, copy_parities};
+use circuit::faults::{Fault, Refusal};
 use circuit::limits::{Parity, ROW_CELLS, TABLE_BYTES, Weight};
-use judges::faults::{lent_fault, list_reply, or_else};
+use judges::faults::{check_lent, check_list};
 use reading::read_gates;
 
 // Reads a list of gates into weights and rows. A refusal leaves both as they were.
-pub fn read(n: usize, gates: &[u8], weights: &mut [Weight], rows: &mut [Parity]) -> Reply
-    ensures { ReadList n gates.now weights.old rows.old weights.new rows.new
-        result }
+pub fn read(
+    n: usize,
+    gates: &[u8],
+    weights: &mut [Weight],
+    rows: &mut [Parity],
+) -> Result<(), Refusal>
+    ensures { ReadList n gates.now weights.old rows.old weights.new rows.new (told result) }
 {
-    let found = list_reply(n, gates, read_lent(weights.len(), rows.len()));
-    if let Reply::Refused { number, place } = found {
-        return Reply::Refused {
-            number: number,
-            place: place,
-        };
-    }
+    check_list(n, gates, check_read_lent(weights.len(), rows.len()))?;
     put_reading(n, gates, weights, rows);
-    Reply::Done
+    Ok(())
 }
 
 // Fault 8, by the lengths of the weights and the rows lent.
-fn read_lent(weights: usize, rows: usize) -> u8
-    ensures { result ≡ read_lent weights rows }
+fn check_read_lent(weights: usize, rows: usize) -> Result<(), Fault>
+    ensures { fault_told result ≡ read_lent weights rows }
 {
-    or_else(
-        lent_fault(weights, TABLE_BYTES),
-        lent_fault(rows, ROW_CELLS),
-    )
+    check_lent(weights, TABLE_BYTES)?;
+    check_lent(rows, ROW_CELLS)
 }
 
 // The weights and rows of an accepted list, into what is lent for them.
@@ -44,9 +40,7 @@ fn put_reading(n: usize, gates: &[u8], weights: &mut [Weight], rows: &mut [Parit
     requires { ReadInto n gates.now weights.old rows.old }
     ensures { ReadOut n gates.now weights.new rows.new }
 {
-    let t = read_gates(n, gates);
-    let w = t.weights;
-    let r = t.rows;
-    copy_bytes(&w, weights);
-    copy_parities(&r, rows);
+    let read = read_gates(n, gates);
+    weights.copy_from_slice(&read.weights);
+    rows.copy_from_slice(&read.rows);
 }

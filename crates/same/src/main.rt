@@ -2,14 +2,13 @@
 // `verdict::put_verdict`, and it is passed on as it is: both are proved. Which bytes the system gives and takes is assumed.
 #![tactic(auto)]
 
-ghost use Rattle.std.specs.Prelude.{◌≡◌, ◌≤◌, OnOk, length, take, ℕ};
+ghost use Rattle.std.specs.Prelude.{◌≤◌, IfOk, OnOk, length, take, ℕ};
 ghost use Rattle.std.specs.Io.KnownBytes.{Appends};
 ghost use Rattle.input.specs.Kept.{Starts, Within};
 ghost use Rattle.same.specs.Lines.{Says, SaysInPart};
-ghost use Rattle.same.specs.Names.{Named, end_of, prefix};
+ghost use Rattle.same.specs.Names.{Named, prefix};
 
-use input::{Input, read_input};
-use lines::put;
+use input::read_input;
 use output::{fail, write_all};
 use std::env::{Env, FillError};
 use std::fs::Files;
@@ -21,108 +20,96 @@ use verdict::{Verdict, line_bytes, put_verdict};
 // The program's own name, and two files.
 const ARGUMENTS: usize = 3;
 
-// What a line on standard error starts with, `same: `, has so many bytes.
-const PREFIX: usize = 6;
+// What a line on standard error starts with.
+const PREFIX: &[u8] = b"same: ";
+
+const PREFIX_BYTES: usize = 6;
 
 // No name of a file that the system takes has more bytes.
 const PATH_BYTES: usize = 4096;
 
-const NAME_BYTES: usize = PREFIX + PATH_BYTES;
+const NAME_BYTES: usize = PREFIX_BYTES + PATH_BYTES;
 
-// The system's numbers for these errors, whose words it has.
+// The system's numbers for these errors, whose words it has: an `ErrorKind` has others.
 const INVALID_ARGUMENT: i32 = 22;
 
 const NAME_TOO_LONG: i32 = 36;
 
 const NOT_TEXT: i32 = 84;
 
-// Both files are read before either text is judged.
+// Why a text was not read, as standard error tells it.
+#[derive(Drop)]
+enum Failure {
+    // An argument is not taken for the name of a file.
+    Name(FillError),
+    // The file that an argument names cannot be read.
+    File { argument: usize, error: io::Error },
+}
+
 fn main(rt: HostRuntime) {
     let mut errors = rt.stderr();
     if !has_arguments(&rt) {
         let _ = write_all(&mut errors, b"usage: same FIRST SECOND\n");
         return;
     }
-    let mut first = [0u8; TEXT_BYTES];
-    match read_file(&rt, 1, &mut first, &mut errors) {
-        Input::Read { bytes } => read_beside(&rt, &first[..bytes], &mut rt.stdout(), &mut errors),
-        Input::Failed { error: _ } => {}
+    if let Err(failure) = compare_files(&rt, &mut rt.stdout(), &mut errors) {
+        let _ = tell(&rt, failure, &mut errors);
     }
 }
 
-// Whether there are so many arguments, and no more.
+// Whether there are so many arguments, and no more. There is no room for one that is there, so it is too long unless it is empty.
 fn has_arguments<R: Env>(rt: &R) -> bool {
-    is_there(rt, ARGUMENTS - 1) && !is_there(rt, ARGUMENTS)
+    let is_there = |i| !matches!(rt.arg(i, &mut []), Err(FillError::NotPresent));
+    is_there(ARGUMENTS - 1) && !is_there(ARGUMENTS)
 }
 
-// Whether there is an argument i. There is no room for it, so it is too long unless it is empty.
-fn is_there<R: Env>(rt: &R, i: usize) -> bool {
-    match rt.arg(i, &mut []) {
-        Ok(_) => true,
-        Err(FillError::TooLong) => true,
-        Err(FillError::NotPresent) => false,
-    }
-}
-
-fn read_beside<R: Env + Files, W: Write, E: Write>(
+// Both files are read before either text is judged.
+fn compare_files<R: Env + Files, W: Write, E: Write>(
     rt: &R,
-    first: &[u8],
     out: &mut W,
     errors: &mut E,
-) {
+) -> Result<(), Failure> {
+    let mut first = [0u8; TEXT_BYTES];
     let mut second = [0u8; TEXT_BYTES];
-    match read_file(rt, 2, &mut second, errors) {
-        Input::Read { bytes } => {
-            let _ = reply_to(rt, first, &second[..bytes], out, errors);
-        }
-        Input::Failed { error: _ } => {}
-    }
+    let a = read_file(rt, 1, &mut first)?;
+    let b = read_file(rt, 2, &mut second)?;
+    let _ = reply_to(rt, &first[..a], &second[..b], out, errors);
+    Ok(())
 }
 
-// The first bytes of the file that argument i names, as many as decide. Where it cannot be read, standard error names it and the reason.
-fn read_file<R: Env + Files, E: Write>(rt: &R, i: usize, buf: &mut [u8], errors: &mut E) -> Input
+// The first bytes of the file that an argument names, as many as decide.
+fn read_file<R: Env + Files>(rt: &R, argument: usize, buf: &mut [u8]) -> Result<usize, Failure>
     ensures { Within buf.new result }
 {
-    let mut name = [0u8; NAME_BYTES];
-    match put_name(rt, i, &mut name) {
-        Ok(end) => match open(rt, &name[PREFIX..end]) {
-            Ok(file) => read_or_fail(file, &name[..end], buf, errors),
-            Err(error) => told(&name[..end], error, errors),
-        },
-        Err(fault) => told(b"same: the name of a file", reason_of(fault), errors),
-    }
+    let mut room = [0u8; NAME_BYTES];
+    let name = put_name(rt, argument, &mut room).map_err(Failure::Name)?;
+    let file = open(rt, &name[PREFIX_BYTES..]).map_err(|error| Failure::File { argument, error })?;
+    read_and_close(file, buf).map_err(|error| Failure::File { argument, error })
 }
 
 // Names of files are UTF-8 in the library: it takes no others.
 fn open<R: Files>(rt: &R, name: &[u8]) -> io::Result<R::File> {
-    match str::from_utf8(name) {
-        Ok(path) => fs::open(rt, path),
-        Err(_) => Err(io::Error::from_raw_os_error(NOT_TEXT)),
-    }
+    let path = str::from_utf8(name).map_err(|_| io::Error::from_raw_os_error(NOT_TEXT))?;
+    fs::open(rt, path)
 }
 
 // The file is closed before another is opened: where standard input was closed, /dev/stdin would else be this file once more.
-fn read_or_fail<F: Read + Drop, E: Write>(
-    mut file: F,
-    name: &[u8],
-    buf: &mut [u8],
-    errors: &mut E,
-) -> Input
+fn read_and_close<F: Read + Drop>(mut file: F, buf: &mut [u8]) -> io::Result<usize>
     ensures within { Within buf.new result }
     ensures starts { Starts (F.remaining file) buf.new result }
 {
-    match read_input(&mut file, buf) {
-        Input::Read { bytes } => Input::Read { bytes: bytes },
-        Input::Failed { error } => told(name, error, errors),
-    }
+    read_input(&mut file, buf)
 }
 
-// Standard error tells what failed.
-fn told<E: Write>(what: &[u8], error: io::Error, errors: &mut E) -> Input
-    ensures { result ≡ Input.Failed error }
-{
-    let _ = fail(errors, what, error);
-    Input::Failed { error: error }
+// One line: the file, and the reason.
+fn tell<R: Env, E: Write>(rt: &R, failure: Failure, errors: &mut E) -> io::Result<()> {
+    match failure {
+        Failure::Name(fault) => fail(errors, b"same: the name of a file", reason_of(fault)),
+        Failure::File { argument, error } => {
+            let mut room = [0u8; NAME_BYTES];
+            fail(errors, shown_name(rt, argument, &mut room), error)
+        }
+    }
 }
 
 // Why an argument is not taken for the name of a file.
@@ -133,16 +120,22 @@ fn reason_of(fault: FillError) -> io::Error {
     }
 }
 
-// `same: ` and what argument i is; gives where that ends, or tells that there is none, or that it is too long.
-fn put_name<R: Env>(rt: &R, i: usize, name: &mut [u8]) -> Result<usize, FillError>
-    requires { prefix ≤ length name.old }
-    ensures { Named name.new (end_of result) }
+// `same: ` and what an argument is, or why it is none: it is not there, or too long.
+fn put_name<'a, R: Env>(rt: &R, argument: usize, room: &'a mut [u8]) -> Result<&'a [u8], FillError>
+    requires { prefix ≤ length room.old }
+    ensures { IfOk result (λ name. Named name.now) }
 {
-    let at = put(b"same: ", name, 0);
-    match rt.arg(i, &mut name[at..]) {
-        Ok(bytes) => Ok(at + bytes),
-        Err(fault) => Err(fault),
-    }
+    room[..PREFIX_BYTES].copy_from_slice(PREFIX);
+    let bytes = rt.arg(argument, &mut room[PREFIX_BYTES..])?;
+    Ok(&room[..PREFIX_BYTES + bytes])
+}
+
+// The same of a name that was taken before; one that is not there would be left out.
+fn shown_name<'a, R: Env>(rt: &R, argument: usize, room: &'a mut [u8]) -> &'a [u8]
+    requires { prefix ≤ length room.old }
+    ensures { Named result.now }
+{
+    put_name(rt, argument, room).unwrap_or(PREFIX)
 }
 
 // The line to standard output, where there is one; standard error names the files that it does not tell.
@@ -168,49 +161,34 @@ fn write_line<W: Write, E: Write>(line: &[u8], out: &mut W, errors: &mut E) -> i
     ensures whole { OnOk result (Appends (W.contents out.old) (W.contents out.new) line.now) }
     ensures part { (k : ℕ) × Appends (W.contents out.old) (W.contents out.new) (take k line.now) }
 {
-    match write_all(out, line) {
-        Ok(()) => Ok(()),
-        Err(error) => {
-            let _ = fail(errors, b"same: standard output", error);
-            Err(error)
-        }
+    let written = write_all(out, line);
+    if let Err(error) = written {
+        let _ = fail(errors, b"same: standard output", error);
     }
+    written
 }
 
 // The file that is refused, or both.
 fn name_files<R: Env, E: Write>(rt: &R, said: Verdict, errors: &mut E) {
     match said {
-        Verdict::Told { bytes: _ } => {}
-        Verdict::First { bytes: _ } => name_refused(rt, 1, errors),
-        Verdict::Second { bytes: _ } => name_refused(rt, 2, errors),
+        Verdict::Told { .. } => {}
+        Verdict::First { .. } => name_refused(rt, 1, errors),
+        Verdict::Second { .. } => name_refused(rt, 2, errors),
         Verdict::Wires => name_both(rt, errors),
     }
 }
 
-fn name_refused<R: Env, E: Write>(rt: &R, i: usize, errors: &mut E) {
-    let mut name = [0u8; NAME_BYTES];
-    let end = end_of(put_name(rt, i, &mut name));
-    let _ = write_all(errors, &name[..end]);
+fn name_refused<R: Env, E: Write>(rt: &R, argument: usize, errors: &mut E) {
+    let mut room = [0u8; NAME_BYTES];
+    let _ = write_all(errors, shown_name(rt, argument, &mut room));
     let _ = write_all(errors, b": refused\n");
 }
 
 fn name_both<R: Env, E: Write>(rt: &R, errors: &mut E) {
     let mut first = [0u8; NAME_BYTES];
     let mut second = [0u8; NAME_BYTES];
-    let a = end_of(put_name(rt, 1, &mut first));
-    let b = end_of(put_name(rt, 2, &mut second));
-    let _ = write_all(errors, &first[..a]);
+    let _ = write_all(errors, shown_name(rt, 1, &mut first));
     let _ = write_all(errors, b" and ");
-    let _ = write_all(errors, &second[PREFIX..b]);
+    let _ = write_all(errors, &shown_name(rt, 2, &mut second)[PREFIX_BYTES..]);
     let _ = write_all(errors, b" have different wire counts\n");
-}
-
-// Both names have been taken before; one that is not there would be left out.
-fn end_of(put: Result<usize, FillError>) -> usize
-    ensures { result ≡ end_of put }
-{
-    match put {
-        Ok(end) => end,
-        Err(_) => PREFIX,
-    }
 }

@@ -8,7 +8,7 @@ ghost use Rattle.trim.specs.Replies.{LeftBy, Replies, RepliesInPart};
 ghost use Rattle.trim.specs.Streams.{name_of};
 
 use answer::{Answered, answer};
-use input::{Input, read_input};
+use input::read_input;
 use output::{fail, write_all};
 use std::io;
 use std::io::{Read, Write};
@@ -17,8 +17,8 @@ use text::limits::{REPLY_BYTES, TEXT_BYTES};
 // The stream that failed, and why.
 #[derive(Drop)]
 enum Failure {
-    Reading { error: io::Error },
-    Writing { error: io::Error },
+    Reading(io::Error),
+    Writing(io::Error),
 }
 
 fn main(rt: HostRuntime) {
@@ -33,13 +33,8 @@ fn trim_text<R: Read, W: Write>(from: &mut R, out: &mut W) -> Result<(), Failure
     ensures part { IfErr result (λ failure. LeftBy failure (R.remaining from.old) (W.contents out.old) (W.contents out.new)) }
 {
     let mut text = [0u8; TEXT_BYTES];
-    match read_input(from, &mut text) {
-        Input::Read { bytes } => match reply_to(&text[..bytes], out) {
-            Ok(()) => Ok(()),
-            Err(error) => Err(Failure::Writing { error: error }),
-        },
-        Input::Failed { error } => Err(Failure::Reading { error: error }),
-    }
+    let bytes = read_input(from, &mut text).map_err(Failure::Reading)?;
+    reply_to(&text[..bytes], out).map_err(Failure::Writing)
 }
 
 // Where the reply cannot be written whole, its first part may be.
@@ -51,10 +46,7 @@ fn reply_to<W: Write>(text: &[u8], out: &mut W) -> io::Result<()>
     match answer(text, &mut reply) {
         Answered::Done { bytes } => write_all(out, &reply[..bytes]),
         // There is room for every reply.
-        Answered::Refused {
-            number: _,
-            place: _,
-        } => unreachable!(),
+        Answered::Refused { .. } => unreachable!(),
     }
 }
 
@@ -63,7 +55,7 @@ fn tell<E: Write>(failure: Failure, errors: &mut E) -> io::Result<()>
     ensures { OnOk result (TellsFailure (name_of failure) (E.contents errors.old) (E.contents errors.new)) }
 {
     match failure {
-        Failure::Reading { error } => fail(errors, b"trim: standard input", error),
-        Failure::Writing { error } => fail(errors, b"trim: standard output", error),
+        Failure::Reading(error) => fail(errors, b"trim: standard input", error),
+        Failure::Writing(error) => fail(errors, b"trim: standard output", error),
     }
 }

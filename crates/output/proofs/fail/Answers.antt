@@ -1,12 +1,11 @@
 -- The four parts stand one behind the other.
-use Rattle.std.proofs.Common.{take}
 use Rattle.std.proofs.lemmas.Result.{on_ok_weaker}
 use Rattle.std.proofs.KnownBytes.{Appends-trans}
 use Rattle.output.proofs.fail.Goals as goal
 
 pub returns : goal.returns
 returns g c =
-    let reason = take c.put_reason-end.result c.put_reason-end.new.reason in
+    let reason = c.reason_in-reason.result.now in
     let name = c.in_ok-write_all.ensures.whole in
     let colon = c.in_ok-write_all-2.ensures.whole in
     let words = c.in_ok-write_all-3.ensures.whole in

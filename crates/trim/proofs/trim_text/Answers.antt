@@ -1,5 +1,7 @@
 -- The first bytes decide, so the reply to them is that to the whole text.
-use Rattle.std.proofs.Common.{◌≡◌, List, length, rules, subst, sym, take, ℕ}
+use Rattle.std.proofs.Common.{◌≡◌, ◌≤◌, IfErr, IfSome, List, OnOk, length, rules, subst, sym, take, ℕ}
+use Rattle.std.proofs.lemmas.Result.{IfErr-weaker, on_ok_weaker}
+use Rattle.std.specs.declared.io.Error.{Error}
 use Rattle.std.specs.declared.option.Option.{Option}
 use Rattle.answer.specs.Printed.{Prints}
 use Rattle.input.proofs.Reading.{of_input}
@@ -7,33 +9,43 @@ use Rattle.text.proofs.TextLaws.{first_bytes_decide}
 use Rattle.text.specs.Limits.{text_bytes}
 use Rattle.text.specs.Text.{read_text}
 use Rattle.trim.specs.Replies.{Replies, RepliesInPart}
+use Rattle.trim.specs.declared.Failure.TheVariants.{Writing}
+use Rattle.trim.proofs.trim_text.Given as given
 use Rattle.trim.proofs.trim_text.Goals as goal
 
-module _ (had holds : Option (List ℕ)) (count : ℕ) (long : count ≡ text_bytes) (text : List ℕ) where
+module _ (had holds : Option (List ℕ)) (text : List ℕ) where
   -- what is printed for the first bytes
-  printed : (reply : List ℕ) → Prints (read_text (take count text)) reply → Prints (read_text text) reply
-  printed reply p = subst (λ t. Prints t reply) (sym (first_bytes_decide text)) (subst (λ k. Prints (read_text (take k text)) reply) long p)
+  printed : (reply : List ℕ) → Prints (read_text (take text_bytes text)) reply → Prints (read_text text) reply
+  printed reply = subst (λ t. Prints t reply) (sym (first_bytes_decide text))
 
-  whole : Replies (take count text) had holds → Replies text had holds
+  whole : Replies (take text_bytes text) had holds → Replies text had holds
   whole (reply, p, put) = (reply, printed reply p, put)
 
-  part : RepliesInPart (take count text) had holds → RepliesInPart text had holds
+  part : RepliesInPart (take text_bytes text) had holds → RepliesInPart text had holds
   part (reply, k, p, put) = (reply, k, printed reply p, put)
 
-pub returns-in-Ok-clause-whole : goal.returns-in-Ok-clause-whole
-returns-in-Ok-clause-whole g c =
+-- what the first bytes decide, and holds of what was read, holds of the input
+decided : (g : given.Over) (c : goal.After-map_err-2 g) (P : List ℕ → Type 0) → ((text : List ℕ) → P (take text_bytes text) → P text)
+    → P (take c.in_ok-bytes.bytes c.read_input.new.buf) → IfSome (g.R.Read.remaining c.args.from.now) P
+decided g c P first =
     let buf = c.read_input.new.buf in
-    let had = g.W.Write.contents c.args.out.now in
-    let holds = g.W.Write.contents c.reply_to.new.out in
+    let n = c.in_ok-bytes.bytes in
     let long : length buf ≡ text_bytes = search rules in
-    of_input (λ text. Replies text had holds) _ _ buf c.in-Read.bytes c.in-Read.ensures.within c.in-Read.ensures.takes
-    (whole had holds (length buf) long) c.in-Ok.ensures.whole
+    let within : (n ≤ length buf) × (n ≡ length (take n buf)) = search rules in
+    of_input buf n within P (g.R.Read.remaining c.args.from.now) (g.R.Read.remaining c.read_input.new.from) (search rules)
+    (subst (λ k. (text : List ℕ) → P (take k text) → P text) (sym long) first)
 
-pub returns-in-Err-clause-part : goal.returns-in-Err-clause-part
-returns-in-Err-clause-part g c =
-    let buf = c.read_input.new.buf in
+pub returns-clause-whole : goal.returns-clause-whole
+returns-clause-whole g c =
     let had = g.W.Write.contents c.args.out.now in
     let holds = g.W.Write.contents c.reply_to.new.out in
-    let long : length buf ≡ text_bytes = search rules in
-    of_input (λ text. RepliesInPart text had holds) _ _ buf c.in-Read.bytes c.in-Read.ensures.within c.in-Read.ensures.takes
-    (part had holds (length buf) long) c.in-Err.ensures.part
+    let put : OnOk c.map_err-2.result (Replies (take c.in_ok-bytes.bytes c.read_input.new.buf) had holds) = search rules in
+    on_ok_weaker c.map_err-2.result (decided g c (λ text. Replies text had holds) (whole had holds)) put
+
+pub returns-clause-part : goal.returns-clause-part
+returns-clause-part g c =
+    let had = g.W.Write.contents c.args.out.now in
+    let holds = g.W.Write.contents c.reply_to.new.out in
+    let writing : IfErr c.map_err-2.result (λ failure. (error : Error) × (failure ≡ Writing error)) = search rules in
+    let put = decided g c (λ text. RepliesInPart text had holds) (part had holds) c.reply_to.ensures.part in
+    IfErr-weaker c.map_err-2.result _ _ (λ failure (error, is). rw is put) writing

@@ -1,8 +1,0 @@
--- The two lengths lent, one after the other.
-use mathlib.Core.Path.{ap₂, ◌∙◌}
-use Rattle.circuit.specs.Faults.{or_else}
-use Rattle.reader.proofs.read_lent.Goals as goal
-
-pub returns : goal.returns
-returns c =
-    c.or_else.ensures ∙ ap₂ or_else c.lent_fault.ensures c.lent_fault-2.ensures
