@@ -1,5 +1,5 @@
 -- One block more, and the end.
-use mathlib.Core.Path.{◌≡◌}
+use mathlib.Core.Path.{refl, ◌≡◌}
 use Prim.Native.Nat.{◌%◌, ◌*◌, ◌/◌, ◌<◌, ◌^◌}
 use native.Mathlib.Omega.{arith}
 use lib.ListN.{length}
@@ -13,7 +13,7 @@ loop-b-preserved c =
     let i = c.args.i in
     let half : 1 * 2 ^ i % 2 ^ 64 ≡ 2 ^ i = shifted 64 i (omega arith) in
     let there : c.loop-b.b < length c.loop-b.s / (2 * 2 ^ i) = rw (c.loop-b.auto.s, ← half) c.loop-b-test.true in
-    block_next c.loop-b.b half (rw half) (rw half (omega arith)) there c.loop-b.invariant c.add_block.ensures
+    block_next c.loop-b.b half (rw half refl) (rw half (omega arith)) there c.loop-b.invariant c.add_block.ensures
 
 pub returns : goal.returns
 returns c =
