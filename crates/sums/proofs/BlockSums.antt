@@ -2,14 +2,15 @@
 use mathlib.Core.List.{List}
 use mathlib.Core.Logic.{inl, inr, ◌⊎◌}
 use mathlib.Core.Path.{ap, refl, sym, ◌∙◌, ◌≡◌}
-use Prim.Native.Nat.{◌%◌, ◌*◌, ◌+◌, ◌-◌, ◌<◌, ◌^◌, suc, ℕ, ◌≤◌}
-use native.Mathlib.Decide.{dec_lt, ℕ_discrete}
-use native.Mathlib.Nat.{add-zero, le_refl, mod-eq_of_lt}
+use Prim.Native.Nat.{◌%◌, ◌*◌, ◌+◌, ◌-◌, ◌/◌, ◌<◌, ◌^◌, suc, ℕ, ◌≤◌}
+use native.Mathlib.Decide.{dec_lt}
+use native.Mathlib.Nat.{add-zero, div-mul-le_self, mod-eq_of_lt, mul-div_left, mul-le-mul_right}
 use native.Mathlib.Numerals.{add-one}
 use native.Mathlib.Omega.{arith}
-use lib.ListN.{get_or-eq_default, length, length-set, set}
+use lib.ListN.{drop, get_or-eq_default, length, take}
 use lib.Pow.{pow-add}
-use lib.Seq.{get_or-set_other, get_or-set_same}
+use borrow.Rule.Slice.PartMut.{put_mid, same_len_mid}
+use Rattle.std.proofs.lemmas.List.{places}
 use Rattle.circuit.specs.Sound.{weight}
 use Rattle.gf2.proofs.Bit.{bit-lt, bit-values, bit-zero}
 use Rattle.gf2.proofs.Blocks.{bit_up}
@@ -21,27 +22,37 @@ use Rattle.sums.specs.Summing.{Added, InBlocks, SumsTo, WireAdded}
 
 -- ---- one block
 
-pub added_start : (start h : ℕ) (s : List ℕ) → Added start start h s s
-added_start start h s = record { as_long = refl; added = λ p a b. absurd (omega arith); under = λ p l. refl; onward = λ p l. refl }
-
-pub added_next : {start p h : ℕ} {s₀ s : List ℕ} (x : ℕ) → Added start p h s₀ s → start ≤ p → p < length s
-    → x ≡ (weight s p + weight s (p + h)) % 8 → Added start (p + 1) h s₀ (set s p x)
-added_next {start} {p} {h} {s₀} {s} x a l g e =
+-- what was done to a block, lent from `start` on, was done to the numbers that it stands among
+block_added : {start h : ℕ} {s block : List ℕ} → start + 2 * h ≤ length s → Added 0 h h (take (2 * h) (drop start s)) block
+    → Added start (start + h) h s (put_mid start (2 * h) s block)
+block_added {start} {h} {s} {block} fits a =
     record {
-      as_long = length-set s p x ∙ a.as_long;
-      added = λ r b d. go r b d (ℕ_discrete r p);
-      under = λ r b. get_or-set_other s p r x 0 (λ d. omega arith) ∙ a.under r b;
-      onward = λ r b. get_or-set_other s p r x 0 (λ d. omega arith) ∙ a.onward r (omega arith);
+      as_long = same_len_mid start (2 * h) s block a.as_long;
+      added = λ p l g. added p (p - start) (omega arith) (omega arith);
+      under = λ p l. grind (arith, places);
+      onward = λ p l. onward p l (dec_lt p (start + 2 * h));
     }
   where
-    go : (r : ℕ) → start ≤ r → r < p + 1 → Dec (r ≡ p) → weight (set s p x) r ≡ (weight s₀ r + weight s₀ (r + h)) % 8
-    go r b d (yes f) = rw f (get_or-set_same s p x 0 g ∙ e ∙ rw (a.onward p (le_refl p), a.onward (p + h) (omega arith)))
-    go r b d (no ne) = get_or-set_other s p r x 0 ne ∙ a.added r b (omega arith)
+    long : length block ≡ 2 * h
+    long = a.as_long ∙ grind (arith, places)
 
--- what is still to come is below 8, as it was
-pub ahead_small : {start end h : ℕ} {s₀ s : List ℕ} → Added start end h s₀ s → Below 8 s₀ → (p : ℕ) → end ≤ p → p < length s
-    → weight s p < 8
-ahead_small a b p l g = omega (arith, a.onward p l, b p (omega (arith, a.as_long)))
+    inside : (q : ℕ) → q < 2 * h → weight (put_mid start (2 * h) s block) (start + q) ≡ weight block q
+    inside q g = grind (arith, places)
+
+    stood : (q : ℕ) → q < 2 * h → weight (take (2 * h) (drop start s)) q ≡ weight s (start + q)
+    stood q g = grind (arith, places)
+
+    added : (p q : ℕ) → p ≡ start + q → q < h → weight (put_mid start (2 * h) s block) p ≡ (weight s p + weight s (p + h)) % 8
+    added p q e g =
+        let f : start + q + h ≡ start + (q + h) = omega arith in
+        rw (e, f) (inside q (omega arith) ∙ a.added q (omega arith) g ∙ rw (stood q (omega arith), stood (q + h) (omega arith)))
+
+    onward : (p : ℕ) → start + h ≤ p → Dec (p < start + 2 * h) → weight (put_mid start (2 * h) s block) p ≡ weight s p
+    onward p l (yes g) =
+        let q : ℕ = p - start in
+        let e : p ≡ start + q = omega arith in
+        rw e (inside q (omega arith) ∙ a.onward q (omega arith) ∙ stood q (omega arith))
+    onward p l (no g) = grind (arith, places)
 
 -- ---- one wire, block by block
 
@@ -62,24 +73,28 @@ block_having b i p l g = block_half b i p 1 (omega arith) (omega arith) (omega a
 pub wire_start : (i : ℕ) (s : List ℕ) → WireAdded i 0 s s
 wire_start i s = record { as_long = refl; without = λ p a b. absurd (omega arith); having = λ p l. refl; onward = λ p l. refl }
 
--- a block that starts below the end of whole blocks ends there or before
-pub block_inside : (b c h : ℕ) → b * h < c * h → b * h + h ≤ c * h
-block_inside b c h l = go (dec_lt b c)
-  where
-    go : Dec (b < c) → b * h + h ≤ c * h
-    go (yes g) = let d : ℕ = c - suc b in let e : c ≡ b + 1 + d = omega arith in rw e (omega arith)
-    go (no g) = let d : ℕ = b - c in let e : b ≡ c + d = omega arith in absurd (omega (arith, rw e at l))
+-- blocks of k that are there are whole; and where there are whole blocks alone, they are all
+block_whole : (b k l : ℕ) → b < l / k → b * k + k ≤ l
+block_whole b k l h =
+    let below : b + 1 ≤ l / k = omega arith in
+    omega (arith, mul-le-mul_right k below, div-mul-le_self l k)
 
-pub wire_next : {i start : ℕ} {s₀ s s' : List ℕ} (b : ℕ) → start ≡ b * (2 * 2 ^ i) → WireAdded i start s₀ s
-    → Added start (start + 2 ^ i) (2 ^ i) s s' → WireAdded i (start + 2 * 2 ^ i) s₀ s'
-wire_next {i} {start} {s₀} {s} {s'} b e w a =
+pub blocks_all : (b m k l : ℕ) → 0 < k → l ≡ m * k → l / k ≤ b → l ≤ b * k
+blocks_all b m k l h e g = omega (arith, mul-le-mul_right k (rw (e, mul-div_left m h) at g), e)
+
+wire_next : {i : ℕ} {s₀ s s' : List ℕ} (b : ℕ) → WireAdded i (b * (2 * 2 ^ i)) s₀ s
+    → Added (b * (2 * 2 ^ i)) (b * (2 * 2 ^ i) + 2 ^ i) (2 ^ i) s s' → WireAdded i ((b + 1) * (2 * 2 ^ i)) s₀ s'
+wire_next {i} {s₀} {s} {s'} b w a =
     record {
       as_long = a.as_long ∙ w.as_long;
-      without = λ p l z. without p l z (dec_lt p start) (dec_lt p (start + 2 ^ i));
+      without = λ p l z. without p (omega arith) z (dec_lt p start) (dec_lt p (start + 2 ^ i));
       having = λ p z. having p z (dec_lt p start) (dec_lt p (start + 2 ^ i));
       onward = λ p l. a.onward p (omega arith) ∙ w.onward p (omega arith);
     }
   where
+    start : ℕ
+    start = b * (2 * 2 ^ i)
+
     without : (p : ℕ) → p < start + 2 * 2 ^ i → bit p i ≡ 0 → Dec (p < start) → Dec (p < start + 2 ^ i)
         → weight s' p ≡ (weight s₀ p + weight s₀ (p + 2 ^ i)) % 8
     without p l z (yes g) d = a.under p g ∙ w.without p g z
@@ -90,6 +105,13 @@ wire_next {i} {start} {s₀} {s} {s'} b e w a =
     having p z (yes g) d = a.under p g ∙ w.having p z
     having p z (no g) (yes h) = absurd (omega (arith, block_without b i p (omega arith) (omega arith)))
     having p z (no g) (no h) = a.onward p (omega arith) ∙ w.having p z
+
+-- block b, lent from `start` on with k numbers, comes back with its half h added
+pub block_next : {i start k h : ℕ} {s₀ s block : List ℕ} (b : ℕ) → h ≡ 2 ^ i → start ≡ b * (2 * 2 ^ i) → k ≡ 2 * 2 ^ i
+    → b < length s / (2 * 2 ^ i) → WireAdded i (b * (2 * 2 ^ i)) s₀ s → Added 0 h h (take k (drop start s)) block
+    → WireAdded i ((b + 1) * (2 * 2 ^ i)) s₀ (put_mid start k s block)
+block_next {i} {start} {k} {h} {s₀} {s} {block} b half at long there w a =
+    rw (at, long) (wire_next b w (block_added (block_whole b (2 * 2 ^ i) (length s) there) (rw (half, at, long) at a)))
 
 pub wire_end : {i end : ℕ} {s₀ s : List ℕ} → WireAdded i end s₀ s → length s ≤ end → WireAdded i (length s₀) s₀ s
 wire_end {i} {end} {s₀} {s} w l =

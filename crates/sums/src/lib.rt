@@ -26,9 +26,7 @@ fn put_difference(w: &[Weight], u: &[Weight], out: &mut [Weight])
     requires { (length out.old ≤ length w.now) × (length out.old ≤ length u.now) × Below 8 w.now × Below 8 u.now }
     ensures { out.new ≡ difference (length out.old) w.now u.now }
 {
-    let mut p: usize = 0;
-    while p < out.len() {
-        out[p] = (w[p] + 7 * u[p]) % 8;
-        p += 1;
+    for (p, x) in out.iter_mut().enumerate() {
+        *x = (w[p] + 7 * u[p]) % 8;
     }
 }

@@ -1,5 +1,5 @@
 // Superset sums in place, modulo 8: each parity gets the sum over those that name all its wires. Internal.
-ghost use Rattle.std.specs.Prelude.{◌≡◌, ◌+◌, ◌*◌, ◌<◌, ◌≤◌, ◌^◌, length};
+ghost use Rattle.std.specs.Prelude.{◌≡◌, ◌*◌, ◌<◌, ◌≤◌, ◌^◌, length};
 ghost use Rattle.gf2.specs.Over.{Below};
 ghost use Rattle.circuit.specs.Limits.{max_wires};
 ghost use Rattle.sums.specs.Summing.{Added, InBlocks, SumsTo, WireAdded};
@@ -16,25 +16,27 @@ pub fn put_sums(n: usize, s: &mut [Weight])
     }
 }
 
-// To each parity without wire i comes what stands at the same one with it. In each block the half without the wire comes first.
+// To each parity without wire i comes what stands at the same one with it, block by block.
 fn add_wire(s: &mut [Weight], i: usize)
     requires { (i < max_wires) × InBlocks i s.old }
     ensures { WireAdded i (length s.old) s.old s.new }
 {
     let h = 1 << i;
-    let mut from: usize = 0;
-    while from < s.len() {
-        add_block(s, from, h);
-        from += 2 * h;
+    // Not `s.chunks_exact_mut(2 * h)`: once it is done, a proof knows nothing of what s holds.
+    for b in 0..s.len() / (2 * h) {
+        let from = b * (2 * h);
+        add_block(&mut s[from..from + 2 * h], h);
     }
 }
 
-// To the first half of a block comes the second. Each half lies in one piece, so that many bytes are added at a time.
-fn add_block(s: &mut [Weight], from: usize, h: usize)
-    requires { (from + 2 * h ≤ length s.old) × Below 8 s.old }
-    ensures { Added from (from + h) h s.old s.new }
+// To the half of a block without the wire, which comes first, comes the half with it. Each lies in one piece, so that many bytes are added
+// at a time.
+fn add_block(block: &mut [Weight], h: usize)
+    requires { (length block.old ≡ 2 * h) × Below 8 block.old }
+    ensures { Added 0 h h block.old block.new }
 {
-    for p in from..from + h {
-        s[p] = (s[p] + s[p + h]) % 8;
+    let (without, having) = block.split_at_mut(h);
+    for (p, x) in without.iter_mut().enumerate() {
+        *x = (*x + having[p]) % 8;
     }
 }

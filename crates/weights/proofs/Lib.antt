@@ -1,5 +1,3 @@
-pub mod SignedSum
-pub mod Signed
 pub mod OneSum
 pub mod Ways
 pub mod Places

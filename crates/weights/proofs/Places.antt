@@ -6,12 +6,11 @@ use native.Mathlib.Nat.{mul_comm, mul-le-mul_left, mul-suc}
 use native.Mathlib.Omega.{arith}
 use lib.Arith.{digits_div, digits_mod}
 use lib.ListN.{get_or, length}
+use lib.Seq.{ext_get_or}
 use borrow.Author.Tests.{lt-ltb}
 use Rattle.gf2.proofs.Table.{get_d_tabulate, length-tabulate}
 use Rattle.phase.specs.Coefficients.{c, l, q}
-use Rattle.weights.specs.Lists.{c_list, entry_of, l_list, list_of, q_list, size_of}
-use Rattle.weights.specs.declared.lists.Degree.{Degree}
-use Rattle.weights.specs.declared.lists.Degree.TheVariants.{One, Three, Two}
+use Rattle.weights.specs.Lists.{Degree, One, Three, Two, c_list, entry_of, l_list, list_of, q_list, size_of}
 
 -- ---- lengths, and the entry at each place
 
@@ -23,6 +22,10 @@ module _ (N n : ℕ) (w : List ℕ) (of : Degree) where
   pub list_at : (p : ℕ) → p < size_of N of → entry_of N n w of p ≡ get_or (list_of N n w of) p 0
   unfolding list_of
   list_at p h = sym (get_d_tabulate (size_of N of) (entry_of N n w of) p h)
+
+  pub list_filled : (out : List ℕ) → length out ≡ size_of N of → ((p : ℕ) → p < length out → get_or out p 0 ≡ entry_of N n w of p)
+      → out ≡ list_of N n w of
+  list_filled out e f = ext_get_or 0 out (list_of N n w of) (e ∙ sym length-list) (λ p h. f p h ∙ list_at p (omega arith))
 
 -- ---- the place of two wires, and of three
 

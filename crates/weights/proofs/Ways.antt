@@ -4,7 +4,6 @@ use mathlib.Core.List.{List}
 use mathlib.Core.Logic.{◌↔◌}
 use mathlib.Core.Path.{sym, ◌∙◌, ◌≡◌}
 use Prim.Native.Nat.{ℕ, ◌≤◌}
-use native.Mathlib.Omega.{arith}
 use lib.ListN.{length}
 use Rattle.circuit.proofs.Judging.{lent_pass, lent_well, or_pass, or_well}
 use Rattle.circuit.proofs.TableRule.{weights_passes}
@@ -12,7 +11,6 @@ use Rattle.circuit.specs.Faults.{lent_fault, or_else}
 use Rattle.circuit.specs.Limits.{max_wires, pair_bytes, parities, table_bytes, triple_bytes}
 use Rattle.circuit.specs.Sound.{SoundWeights}
 use Rattle.weights.specs.Entry.{coefficients_fault, lists_fault, odd_set_fault}
-use Rattle.weights.specs.Lists.{ListsFit}
 
 -- a wire count that is no fault
 abbrev pub Wires : ℕ → Type 0
@@ -51,7 +49,6 @@ coefficients_passes n w l q c = (
 pub odd_fits : (n : ℕ) (w m : List ℕ) (f : ℕ) → f ≡ odd_set_fault n w (length m) → f ≡ 0 → length w ≡ length m
 odd_fits n w m f e z = let a = (odd_set_passes n w (length m)).0 (sym e ∙ z) in a.2.long ∙ sym a.1
 
-pub lists_fit : (n : ℕ) (w l q c : List ℕ) (f : ℕ) → f ≡ coefficients_fault n w (length l) (length q) (length c) → f ≡ 0 → ListsFit w l q c
-lists_fit n w l q c f e z =
-    let a = (coefficients_passes n w (length l) (length q) (length c)).0 (sym e ∙ z) in
-    record { weights_fit = omega (arith, a.2.long); l_fits = a.1.0; q_fits = a.1.1; c_fits = a.1.2 }
+pub lists_fit : (n : ℕ) (w l q c : List ℕ) (f : ℕ) → f ≡ coefficients_fault n w (length l) (length q) (length c) → f ≡ 0
+    → (length w ≡ table_bytes) × Lengths (length l) (length q) (length c)
+lists_fit n w l q c f e z = let a = (coefficients_passes n w (length l) (length q) (length c)).0 (sym e ∙ z) in (a.2.long, a.1)

@@ -1,11 +1,9 @@
 -- The coefficients of weights as lists, for wires i < j < k below n; N is the most wires that a list has room for.
-use Rattle.std.specs.Prelude.{List, ◌≡◌, ◌%◌, ◌*◌, ◌/◌, ◌≤◌, ℕ, ltb, length}
-use Rattle.circuit.specs.Limits.{max_wires, pair_bytes, parities, triple_bytes}
+use Rattle.std.specs.Prelude.{List, ◌≡◌, ◌%◌, ◌*◌, ◌/◌, ℕ, ltb}
+use Rattle.circuit.specs.Limits.{max_wires}
 use Rattle.circuit.specs.Read.{either}
 use Rattle.gf2.specs.Table.{tabulate}
 use Rattle.phase.specs.Coefficients.{c, l, q}
-use Rattle.weights.specs.declared.lists.Degree.{Degree}
-use Rattle.weights.specs.declared.lists.Degree.TheVariants.{One, Three, Two}
 
 -- l(i) below n, 0 from there on
 abbrev pub l_entry : ℕ → List ℕ → ℕ → ℕ
@@ -18,6 +16,12 @@ q_entry n w i j = either (ltb i j) (either (ltb j n) (q w i j) 0) 0
 -- c(i, j, k) where i < j < k < n, else 0
 abbrev pub c_entry : ℕ → List ℕ → ℕ → ℕ → ℕ → ℕ
 c_entry n w i j k = either (ltb i j) (either (ltb j k) (either (ltb k n) (c w i j k) 0) 0) 0
+
+-- how many wires a coefficient is of: l is of one, q of two, c of three
+pub data Degree : Type 0 where
+  One : Degree
+  Two : Degree
+  Three : Degree
 
 -- ---- the list of the coefficients of one wire, of two, or of three
 
@@ -46,13 +50,6 @@ abbrev pub c_list : ℕ → ℕ → List ℕ → List ℕ
 c_list N n w = list_of N n w Three
 
 -- ---- the three lists as they are lent
-
--- weights and lent lists that the writer takes
-pub record ListsFit (weights l q c : List ℕ) : Type 0 where
-  pub weights_fit : length weights ≤ parities
-  pub l_fits : length l ≡ max_wires
-  pub q_fits : length q ≡ pair_bytes
-  pub c_fits : length c ≡ triple_bytes
 
 -- the lists of the coefficients of these weights
 pub record ListsOf (n : ℕ) (weights l q c : List ℕ) : Type 0 where

@@ -49,7 +49,14 @@ pub fn coefficients(
             place: 0,
         };
     }
-    put_lists(n, weights, l, q, c);
+    // Without a fault each is as long as its array.
+    put_lists(
+        n,
+        weights.as_array().unwrap(),
+        l.as_mut_array().unwrap(),
+        q.as_mut_array().unwrap(),
+        c.as_mut_array().unwrap(),
+    );
     Reply::Done
 }
 
@@ -58,9 +65,7 @@ pub fn put_odd_set(weights: &[Weight], marks: &mut [Mark])
     requires { length weights.now ≡ length marks.old }
     ensures { marks.new ≡ odd_set weights.now }
 {
-    let mut p: usize = 0;
-    while p < weights.len() {
-        marks[p] = weights[p] % 2;
-        p += 1;
+    for (p, mark) in marks.iter_mut().enumerate() {
+        *mark = weights[p] % 2;
     }
 }

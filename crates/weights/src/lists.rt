@@ -1,91 +1,42 @@
-// Lists of the coefficients, for wires i < j < k below n, and 0 elsewhere. Internal: the caller has found no fault.
-ghost use Rattle.std.specs.Prelude.{◌≡◌, ◌<◌, ◌≤◌, length};
-ghost use Rattle.circuit.specs.Limits.{max_wires, parities};
-ghost use Rattle.weights.specs.Lists.{ListsFit, ListsOf, l_entry, q_entry, c_entry, size_of, entry_of, list_of};
+// Lists of the coefficients, for wires i < j < k below n, and 0 elsewhere (document 01, "Signature"). Internal: the caller has found no
+// fault.
+ghost use Rattle.std.specs.Prelude.{◌≡◌, ℕ, ◌<◌, get_or, length};
+ghost use Rattle.weights.specs.Lists.{ListsOf};
 
-use crate::sums::{c_of, l_of, q_of};
-use circuit::limits::{Coefficient, MAX_WIRES, PAIR_BYTES, Weight};
+use crate::sums::sum_of;
+use circuit::limits::{Coefficient, MAX_WIRES, PAIR_BYTES, TABLE_BYTES, TRIPLE_BYTES, Weight};
 
-// How many wires a coefficient is of: l is of one, q of two, c of three.
-#[derive(Clone, Copy)]
-pub enum Degree {
-    One,
-    Two,
-    Three,
-}
-
-// The three lists.
+// The three lists: l(i) at i, q(i, j) at N j + i, c(i, j, k) at N N k + N j + i, where N is MAX_WIRES. l is the sum for its wire modulo 8,
+// q minus the sum for its two modulo 4, c the sum for its three modulo 2: remainders that are never negative, and 0 at multiples.
 pub fn put_lists(
     n: usize,
-    w: &[Weight],
-    l: &mut [Coefficient],
-    q: &mut [Coefficient],
-    c: &mut [Coefficient],
+    w: &[Weight; TABLE_BYTES],
+    l: &mut [Coefficient; MAX_WIRES],
+    q: &mut [Coefficient; PAIR_BYTES],
+    c: &mut [Coefficient; TRIPLE_BYTES],
 )
-    requires { ListsFit w.now l.old q.old c.old }
     ensures { ListsOf n w.now l.new q.new c.new }
 {
-    put_list(n, w, Degree::One, l);
-    put_list(n, w, Degree::Two, q);
-    put_list(n, w, Degree::Three, c);
+    put_list(l, |i| sum_of(n, w, &[i]).rem_euclid(8) as Coefficient);
+    put_list(q, |p| {
+        let i = p % MAX_WIRES;
+        let j = p / MAX_WIRES;
+        (-sum_of(n, w, &[i, j])).rem_euclid(4) as Coefficient
+    });
+    put_list(c, |p| {
+        let i = p % MAX_WIRES;
+        let j = p / MAX_WIRES % MAX_WIRES;
+        let k = p / PAIR_BYTES;
+        sum_of(n, w, &[i, j, k]).rem_euclid(2) as Coefficient
+    });
 }
 
-// One list: the coefficients of so many wires.
-fn put_list(n: usize, w: &[Weight], of: Degree, out: &mut [Coefficient])
-    requires { (length w.now ≤ parities) × (length out.old ≡ size_of max_wires of) }
-    ensures { out.new ≡ list_of max_wires n w.now of }
+// One list: at each place what `entry` gives for it.
+fn put_list<F: Fn(usize) -> Coefficient>(list: &mut [Coefficient], entry: F)
+    requires { (p : ℕ) → p < length list.old → F.pre entry p }
+    ensures { (p : ℕ) → p < length list.old → F.post entry p (get_or list.new p 0) }
 {
-    let mut p: usize = 0;
-    while p < out.len() {
-        out[p] = entry_at(n, w, of, p);
-        p += 1;
+    for (p, x) in list.iter_mut().enumerate() {
+        *x = entry(p);
     }
-}
-
-// What stands at p: l(i) at i, q(i, j) at N j + i, c(i, j, k) at N N k + N j + i, where N is MAX_WIRES.
-fn entry_at(n: usize, w: &[Weight], of: Degree, p: usize) -> Coefficient
-    requires { (length w.now ≤ parities) × (p < size_of max_wires of) }
-    ensures { result ≡ entry_of max_wires n w.now of p }
-{
-    match of {
-        Degree::One => l_entry(n, w, p),
-        Degree::Two => q_entry(n, w, p % MAX_WIRES, p / MAX_WIRES),
-        Degree::Three => c_entry(
-            n,
-            w,
-            p % MAX_WIRES,
-            p / MAX_WIRES % MAX_WIRES,
-            p / PAIR_BYTES,
-        ),
-    }
-}
-
-fn l_entry(n: usize, w: &[Weight], i: usize) -> Coefficient
-    requires { (length w.now ≤ parities) × (i < max_wires) }
-    ensures { result ≡ l_entry n w.now i }
-{
-    if i < n { l_of(w, i) } else { 0 }
-}
-
-fn q_entry(n: usize, w: &[Weight], i: usize, j: usize) -> Coefficient
-    requires { (length w.now ≤ parities) × (j < max_wires) }
-    ensures { result ≡ q_entry n w.now i j }
-{
-    if i >= j {
-        return 0;
-    }
-    if j < n { q_of(w, i, j) } else { 0 }
-}
-
-fn c_entry(n: usize, w: &[Weight], i: usize, j: usize, k: usize) -> Coefficient
-    requires { (length w.now ≤ parities) × (k < max_wires) }
-    ensures { result ≡ c_entry n w.now i j k }
-{
-    if i >= j {
-        return 0;
-    }
-    if j >= k {
-        return 0;
-    }
-    if k < n { c_of(w, i, j, k) } else { 0 }
 }
