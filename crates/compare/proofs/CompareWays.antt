@@ -1,7 +1,9 @@
--- One law for each way out of the entry `compare`, by what the judge of both lists found and by what was decided.
+-- What no fault in either list means for the entry `compare`, and what is decided of the readings.
 use mathlib.Core.Bool.{Bool}
-use mathlib.Core.List.{List}
-use mathlib.Core.Path.{refl, sym, ◌∙◌, ◌≡◌}
+use mathlib.Core.List.{List, [], ◌∷◌}
+use lib.ListN.{get_or}
+use mathlib.Core.Path.{ap, refl, sym, ◌∙◌, ◌≡◌}
+use Rattle.std.specs.Prelude.{Ok}
 use Prim.Native.Nat.{ℕ, ◌≤◌}
 use native.Mathlib.Omega.{arith}
 use Rattle.circuit.proofs.Judging.{list_done, refused_not_done}
@@ -13,6 +15,11 @@ use Rattle.circuit.specs.Run.{SameAction}
 use Rattle.circuit.specs.Sound.{SoundReading}
 use Rattle.circuit.specs.Replies.{Reply}
 use Rattle.circuit.specs.Replies as replies
+use Rattle.circuit.specs.Told.{number}
+use Rattle.circuit.specs.declared.faults.Fault.{Fault}
+use Rattle.circuit.specs.declared.faults.Fault.TheVariants.{BadMove, GateKind, GateWire, LentOutput, ListLength, Malformed}
+use Rattle.circuit.specs.declared.faults.Fault.TheVariants.{RowRule, SameWire, SecondList, TableRule, WireCount}
+use Rattle.circuit.specs.declared.faults.Refusal.{Refusal}
 use Rattle.gf2.proofs.Answers.{decides_as}
 use Rattle.gf2.specs.Tests.{Decides}
 use Rattle.phase.proofs.Laws.{acts_alike_exactly}
@@ -21,7 +28,7 @@ use Rattle.reader.specs.Entry.{ReadAll, reading_of}
 use Rattle.reader.specs.declared.reading.ListRead.{ListRead}
 use Rattle.compare.specs.Deciding.{BothFormed}
 use Rattle.compare.specs.Entry.{ComparesLists, and_then, as_second, compare_reply}
-use Rattle.compare.specs.declared.Compared.TheVariants.{Differ, Refused, Same}
+use Rattle.compare.specs.declared.Compared.TheVariants.{Differ}
 
 -- ---- replies in a row
 
@@ -33,22 +40,40 @@ as_second_done : (a : Reply) → as_second a ≡ replies.Done → a ≡ replies.
 as_second_done replies.Done e = refl
 as_second_done (replies.Refused number place) e = absurd (refused_not_done _ place e)
 
-module _ (n : ℕ) (first second : List ℕ) {found : Reply} (judged : found ≡ list_reply n first 0) where
-  -- the first list refuses
-  pub first_refuses : {number place : ℕ} → found ≡ replies.Refused number place
-      → replies.Refused number place ≡ compare_reply n first second
-  first_refuses e = rw (sym judged ∙ e)
-
-  -- or it is done, and the second decides
-  pub second_decides : {next : Reply} → found ≡ replies.Done → next ≡ as_second (list_reply n second 0)
-      → next ≡ compare_reply n first second
-  second_decides e f = f ∙ rw (sym judged ∙ e)
-
 -- no fault is found exactly in lists that are both accepted
 pub both_accepted : (n : ℕ) (first second : List ℕ) → compare_reply n first second ≡ replies.Done → Accepted n first × Accepted n second
 both_accepted n first second e =
     let t = and_then_done (list_reply n first 0) (as_second (list_reply n second 0)) e in
     ((list_done n first 0 t.0).0, (list_done n second 0 (as_second_done (list_reply n second 0) t.1)).0)
+
+-- ---- a refusal is told by its number and place
+
+-- each under its number
+faults : List Fault
+faults =
+    WireCount ∷ WireCount ∷ ListLength ∷ GateKind ∷ GateWire ∷ SameWire ∷ TableRule ∷ RowRule ∷ LentOutput ∷ Malformed ∷ BadMove
+    ∷ SecondList ∷ []
+
+at_number : (fault : Fault) → get_or faults (number fault) WireCount ≡ fault
+unfolding faults
+at_number WireCount = refl
+at_number ListLength = refl
+at_number GateKind = refl
+at_number GateWire = refl
+at_number SameWire = refl
+at_number TableRule = refl
+at_number RowRule = refl
+at_number LentOutput = refl
+at_number Malformed = refl
+at_number BadMove = refl
+at_number SecondList = refl
+
+pub one_refusal : (a b : Refusal) → replies.Refused (number a.fault) a.place ≡ replies.Refused (number b.fault) b.place → a ≡ b
+one_refusal a b e =
+    let same : number a.fault ≡ number b.fault = cc in
+    let place : a.place ≡ b.place = cc in
+    let fault : a.fault ≡ b.fault = sym (at_number a.fault) ∙ ap (λ (k : ℕ). get_or faults k WireCount) same ∙ at_number b.fault in
+    λ i. record { fault = fault i; place = place i }
 
 -- ---- both lists read
 
@@ -66,33 +91,16 @@ alike_by_reading {n} {first} {second} both f s d =
 
 -- ---- the ways out
 
-module _ {n : ℕ} {first second : List ℕ} {found : Reply} (judged : found ≡ compare_reply n first second) where
-  pub compare_refused : {number place : ℕ} → found ≡ replies.Refused number place → ComparesLists n first second (Refused number place)
-  compare_refused {number} {place} e =
+module _ {n : ℕ} {first second : List ℕ} (clear : compare_reply n first second ≡ replies.Done) where
+  pub may_compare : BothFormed n first second
+  may_compare =
+      let t = both_accepted n first second clear in
+      record { few = t.0.few; formed_first = t.0.formed; formed_second = t.1.formed }
+
+  pub compare_differ : (SameAction n (gates_of first) (gates_of second) → ⊥) → ComparesLists n first second (Ok Differ)
+  compare_differ not =
       record {
-        reply = sym e ∙ judged;
-        yes = λ done. absurd (refused_not_done number place done);
-        no = λ done. absurd (refused_not_done number place done);
+        reply = sym clear;
+        yes = λ done. (λ e. absurd (omega arith), λ alike. absurd (not alike));
+        no = λ done. (λ e. (told_apart_exactly n (gates_of first) (gates_of second)).1 not, λ t. refl);
       }
-
-  module _ (clear : found ≡ replies.Done) where
-    pub may_compare : BothFormed n first second
-    may_compare =
-        let t = both_accepted n first second (sym judged ∙ clear) in
-        record { few = t.0.few; formed_first = t.0.formed; formed_second = t.1.formed }
-
-    pub compare_same : SameAction n (gates_of first) (gates_of second) → ComparesLists n first second Same
-    compare_same alike =
-        record {
-          reply = sym clear ∙ judged;
-          yes = λ done. (λ e. alike, λ a. refl);
-          no = λ done. (λ e. absurd (omega arith), λ t. absurd ((told_apart_exactly n (gates_of first) (gates_of second)).0 t alike));
-        }
-
-    pub compare_differ : (SameAction n (gates_of first) (gates_of second) → ⊥) → ComparesLists n first second Differ
-    compare_differ not =
-        record {
-          reply = sym clear ∙ judged;
-          yes = λ done. (λ e. absurd (omega arith), λ alike. absurd (not alike));
-          no = λ done. (λ e. (told_apart_exactly n (gates_of first) (gates_of second)).1 not, λ t. refl);
-        }

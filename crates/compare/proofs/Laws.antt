@@ -1,5 +1,6 @@
 -- The page to read: which pairs of lists are compared, which fault any other has, and what the promise of `compare` means.
 use mathlib.Core.List.{List}
+use Rattle.std.specs.Prelude.{Err, Ok, Result}
 use mathlib.Core.Logic.{◌↔◌, ◌≢◌}
 use mathlib.Core.Path.{ap, refl, sym, ◌∙◌, ◌≡◌}
 use Prim.Native.Nat.{ℕ}
@@ -14,10 +15,12 @@ use Rattle.circuit.specs.Replies.{number_of}
 use Rattle.circuit.specs.Run.{SameAction, ToldApart}
 use Rattle.circuit.specs.Replies.{Reply}
 use Rattle.circuit.specs.Replies as replies
-use Rattle.compare.proofs.CompareWays.{both_accepted}
-use Rattle.compare.specs.Entry.{ComparesLists, and_then, as_second, compare_reply, same_of, told}
+use Rattle.circuit.specs.Told.{number, told}
+use Rattle.circuit.specs.declared.faults.Refusal.{Refusal}
+use Rattle.compare.proofs.CompareWays.{both_accepted, one_refusal}
+use Rattle.compare.specs.Entry.{ComparesLists, and_then, as_second, compare_reply, same_of}
 use Rattle.compare.specs.declared.Compared.{Compared}
-use Rattle.compare.specs.declared.Compared.TheVariants.{Differ, Refused, Same}
+use Rattle.compare.specs.declared.Compared.TheVariants.{Differ, Same}
 
 -- ---- demand 1: the reply to faulty lists
 
@@ -66,7 +69,7 @@ reply_number n first second {number} {place} = go (list_reply n first 0) refl (l
 
 -- ---- what the promise means
 
-module _ {n : ℕ} {first second : List ℕ} {r : Compared} (c : ComparesLists n first second r) where
+module _ {n : ℕ} {first second : List ℕ} {r : Result Compared Refusal} (c : ComparesLists n first second r) where
   -- number 0 says that the lists were compared, and nothing else does
   pub compare_number : (number_of (told r) ≡ 0) ↔ (told r ≡ replies.Done)
   compare_number = (zero_done (told r) (λ number place e. reply_number n first second (sym c.reply ∙ e)), λ e. ap number_of e)
@@ -79,21 +82,21 @@ module _ {n : ℕ} {first second : List ℕ} {r : Compared} (c : ComparesLists n
   )
 
   -- yes, of any two lists at all, exactly when both are accepted and each basis state goes to the same state with the same phase
-  pub same_exactly : (r ≡ Same) ↔ (Accepted n first × Accepted n second × SameAction n (gates_of first) (gates_of second))
+  pub same_exactly : (r ≡ Ok Same) ↔ (Accepted n first × Accepted n second × SameAction n (gates_of first) (gates_of second))
   same_exactly = (
     λ e. let done : told r ≡ replies.Done = ap told e in
         let a = compared.0 done in
         (a.0, a.1, (c.yes done).0 (ap same_of e)),
-    λ t. let done = compared.1 (t.0, t.1) in is_same r done ((c.yes done).1 t.2),
+    λ t. let done = compared.1 (t.0, t.1) in is_same r ((c.yes done).1 t.2),
   )
     where
-      is_same : (r : Compared) → told r ≡ replies.Done → same_of r ≡ 1 → r ≡ Same
-      is_same Same d e = refl
-      is_same Differ d e = absurd (omega arith)
-      is_same (Refused number place) d e = absurd (refused_not_done number place d)
+      is_same : (r : Result Compared Refusal) → same_of r ≡ 1 → r ≡ Ok Same
+      is_same (Ok Same) e = refl
+      is_same (Ok Differ) e = absurd (omega arith)
+      is_same (Err refusal) e = absurd (omega arith)
 
   -- no, exactly when both are accepted and a basis state tells them apart
-  pub differ_exactly : (r ≡ Differ) ↔ (Accepted n first × Accepted n second × ToldApart n (gates_of first) (gates_of second))
+  pub differ_exactly : (r ≡ Ok Differ) ↔ (Accepted n first × Accepted n second × ToldApart n (gates_of first) (gates_of second))
   differ_exactly = (
     λ e. let done : told r ≡ replies.Done = ap told e in
         let a = compared.0 done in
@@ -101,21 +104,21 @@ module _ {n : ℕ} {first second : List ℕ} {r : Compared} (c : ComparesLists n
     λ t. let done = compared.1 (t.0, t.1) in is_differ r done ((c.no done).1 t.2),
   )
     where
-      is_differ : (r : Compared) → told r ≡ replies.Done → same_of r ≡ 0 → r ≡ Differ
-      is_differ Same d e = absurd (omega arith)
-      is_differ Differ d e = refl
-      is_differ (Refused number place) d e = absurd (refused_not_done number place d)
+      is_differ : (r : Result Compared Refusal) → told r ≡ replies.Done → same_of r ≡ 0 → r ≡ Ok Differ
+      is_differ (Ok Same) d e = absurd (omega arith)
+      is_differ (Ok Differ) d e = refl
+      is_differ (Err refusal) d e = absurd (refused_not_done (number refusal.fault) refusal.place d)
 
 -- nothing is left open: whoever keeps this promise gives the same reply
-pub one_reply : {n : ℕ} {first second : List ℕ} {r s : Compared} → ComparesLists n first second r → ComparesLists n first second s → r ≡ s
+pub one_reply : {n : ℕ} {first second : List ℕ} {r s : Result Compared Refusal} → ComparesLists n first second r
+    → ComparesLists n first second s → r ≡ s
 one_reply {r = r} {s = s} c d = go r refl
   where
-    refuses : (x : Compared) (f i : ℕ) → replies.Refused f i ≡ told x → Refused f i ≡ x
-    refuses Same f i e = absurd (refused_not_done f i e)
-    refuses Differ f i e = absurd (refused_not_done f i e)
-    refuses (Refused g j) f i e = cc
+    refuses : (x : Result Compared Refusal) (refusal : Refusal) → told {A = Compared} (Err refusal) ≡ told x → Err refusal ≡ x
+    refuses (Ok y) refusal e = absurd (refused_not_done (number refusal.fault) refusal.place e)
+    refuses (Err other) refusal e = ap Err (one_refusal refusal other e)
 
-    go : (x : Compared) → r ≡ x → r ≡ s
-    go Same e = e ∙ sym ((same_exactly d).1 ((same_exactly c).0 e))
-    go Differ e = e ∙ sym ((differ_exactly d).1 ((differ_exactly c).0 e))
-    go (Refused f i) e = e ∙ refuses s f i (sym (ap told e) ∙ c.reply ∙ sym d.reply)
+    go : (x : Result Compared Refusal) → r ≡ x → r ≡ s
+    go (Ok Same) e = e ∙ sym ((same_exactly d).1 ((same_exactly c).0 e))
+    go (Ok Differ) e = e ∙ sym ((differ_exactly d).1 ((differ_exactly c).0 e))
+    go (Err refusal) e = e ∙ refuses s refusal (sym (ap told e) ∙ c.reply ∙ sym d.reply)

@@ -1,4 +1,3 @@
 pub mod BySums
-pub mod Turns
 pub mod CompareWays
 pub mod Laws

@@ -1,26 +1,22 @@
 -- The entry `compare`: its reply to two lists on the same wires, sound or faulty (document 02, 2.1).
-use Rattle.std.specs.Prelude.{List, ◌↔◌, ◌≡◌, ℕ}
+use Rattle.std.specs.Prelude.{Err, List, Ok, Result, ◌↔◌, ◌≡◌, ℕ}
 use Rattle.circuit.specs.Faults.{list_reply, second_list}
 use Rattle.circuit.specs.Gate.{gates_of}
 use Rattle.circuit.specs.Run.{SameAction, ToldApart}
 use Rattle.circuit.specs.Replies.{Reply}
 use Rattle.circuit.specs.Replies as replies
+use Rattle.circuit.specs.Told.{told}
+use Rattle.circuit.specs.declared.faults.Refusal.{Refusal}
 use Rattle.compare.specs.declared.Compared.{Compared}
-use Rattle.compare.specs.declared.Compared.TheVariants.{Differ, Refused, Same}
+use Rattle.compare.specs.declared.Compared.TheVariants.{Differ, Same}
 
 -- ---- the reply
 
--- each case in number and place: done whether the lists act alike or not, else the fault
-abbrev pub told : Compared → Reply
-told Same = replies.Done
-told Differ = replies.Done
-told (Refused number place) = replies.Refused number place
-
 -- 1 where the answer is yes, else 0
-abbrev pub same_of : Compared → ℕ
-same_of Same = 1
-same_of Differ = 0
-same_of (Refused number place) = 0
+abbrev pub same_of : Result Compared Refusal → ℕ
+same_of (Ok Same) = 1
+same_of (Ok Differ) = 0
+same_of (Err refusal) = 0
 
 -- ---- faults
 
@@ -41,7 +37,7 @@ compare_reply n first second = and_then (list_reply n first 0) (as_second (list_
 -- ---- the promise
 
 -- `compare`, called with these lists, replies r
-pub record ComparesLists (n : ℕ) (first second : List ℕ) (r : Compared) : Type 0 where
+pub record ComparesLists (n : ℕ) (first second : List ℕ) (r : Result Compared Refusal) : Type 0 where
   pub reply : told r ≡ compare_reply n first second
   -- of two lists without a fault it says yes exactly when they act alike, and no exactly when a basis state tells them apart
   pub yes : told r ≡ replies.Done → (same_of r ≡ 1) ↔ SameAction n (gates_of first) (gates_of second)

@@ -8,11 +8,9 @@ ghost use Rattle.circuit.specs.Sound.{SoundReading, SoundWeights};
 ghost use Rattle.gf2.specs.Tests.{Decides};
 ghost use Rattle.phase.specs.Coefficients.{SameCoefficients, SaysSame};
 ghost use Rattle.reader.specs.Entry.{reading_of};
-ghost use Rattle.sums.specs.Difference.{SumsFit};
 ghost use Rattle.compare.specs.Deciding.{BothFormed, NoneTells};
 ghost use Rattle.compare.specs.Deciding.{modulus as modulusOf};
 
-use circuit::cells::cell_at;
 use circuit::limits::{Parity, TABLE_BYTES, Weight};
 use circuit::parity::wires_of;
 use reader::reading::{ListRead, read_gates};
@@ -25,67 +23,38 @@ pub fn act_alike(n: usize, first: &[u8], second: &[u8]) -> bool
 {
     let one = read_gates(n, first);
     let other = read_gates(n, second);
-    say_same(n, other, one)
+    say_same(n, &other, &one)
 }
 
 // The rows come first: where they differ, the weights need not be summed.
-fn say_same(n: usize, a: ListRead, b: ListRead) -> bool
-    requires { (n ≤ max_wires) × SoundReading max_wires n (reading_of a) × SoundReading max_wires n (reading_of b) }
-    ensures { Decides result (SaysSame n (reading_of a) (reading_of b)) }
+fn say_same(n: usize, a: &ListRead, b: &ListRead) -> bool
+    requires { (n ≤ max_wires) × SoundReading max_wires n (reading_of a.now) × SoundReading max_wires n (reading_of b.now) }
+    ensures { Decides result (SaysSame n (reading_of a.now) (reading_of b.now)) }
 {
-    let a_rows = a.rows;
-    let b_rows = b.rows;
-    if !same_rows(&a_rows, &b_rows) {
-        return false;
-    }
-    let a_weights = a.weights;
-    let b_weights = b.weights;
-    same_coefficients(n, &a_weights, &b_weights)
+    a.rows == b.rows && same_coefficients(n, &a.weights, &b.weights)
 }
 
-fn same_rows(a: &[Parity], b: &[Parity]) -> bool
-    requires { length a.now ≡ length b.now }
-    ensures { Decides result (a.now ≡ b.now) }
-{
-    let mut i: usize = 0;
-    while i < a.len() {
-        if cell_at(a, i) != cell_at(b, i) {
-            return false;
-        }
-        i += 1;
-    }
-    true
-}
-
-// Sound weights are 0 from 2^n up, so that the sums go over the parities of n wires alone.
-fn same_coefficients(n: usize, w: &[Weight], v: &[Weight]) -> bool
+// The sums are made for all wires, pairs and triples at once. Sound weights are 0 from 2^n up, so that they go over the parities of n
+// wires alone.
+fn same_coefficients(n: usize, w: &[Weight; TABLE_BYTES], v: &[Weight; TABLE_BYTES]) -> bool
     requires { (n ≤ max_wires) × SoundWeights parities n w.now × SoundWeights parities n v.now }
     ensures { Decides result (SameCoefficients n w.now v.now) }
 {
-    let mut s = [0; TABLE_BYTES];
-    same_by_sums(n, w, v, &mut s[..1 << n])
-}
-
-// The sums are made in s, for all wires, pairs and triples at once.
-fn same_by_sums(n: usize, w: &[Weight], v: &[Weight], s: &mut [Weight]) -> bool
-    requires { SumsFit n s.old × SoundWeights parities n w.now × SoundWeights parities n v.now }
-    ensures { Decides result (SameCoefficients n w.now v.now) }
-{
-    put_difference_sums(n, w, v, s);
-    none_tells(s)
+    let mut table = [0; TABLE_BYTES];
+    let sums = &mut table[..1 << n];
+    put_difference_sums(n, w, v, sums);
+    none_tells(sums)
 }
 
 // Whether no sum tells the weights apart: at one wire that of l, at two that of q, at three that of c.
-fn none_tells(s: &[Weight]) -> bool
-    requires { length s.now ≤ parities }
-    ensures { Decides result (NoneTells s.now) }
+fn none_tells(sums: &[Weight]) -> bool
+    requires { length sums.now ≤ parities }
+    ensures { Decides result (NoneTells sums.now) }
 {
-    let mut p: usize = 0;
-    while p < s.len() {
-        if s[p] % modulus(wires_of(p as Parity)) != 0 {
+    for (p, &sum) in sums.iter().enumerate() {
+        if sum % modulus(wires_of(p as Parity)) != 0 {
             return false;
         }
-        p += 1;
     }
     true
 }

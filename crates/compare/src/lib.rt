@@ -5,64 +5,49 @@
 #![tactic(auto)]
 
 ghost use Rattle.std.specs.Prelude.{◌≡◌};
-ghost use Rattle.compare.specs.Entry.{ComparesLists, as_second, compare_reply};
+ghost use Rattle.circuit.specs.Told.{told};
+ghost use Rattle.compare.specs.Entry.{ComparesLists, compare_reply};
 
 pub mod deciding;
 
-use circuit::Reply;
+use circuit::faults::{Fault, Refusal};
 use deciding::act_alike;
-use judges::faults::{SECOND_LIST, list_reply};
+use judges::faults::check_list;
 
-#[derive(Drop)]
+#[derive(Clone, Copy, Debug, PartialEq, Eq)]
 pub enum Compared {
     // Both lists act alike.
     Same,
     // Some basis state tells them apart.
     Differ,
-    // The number and place of the first fault.
-    Refused { number: u8, place: usize },
 }
 
 // Compares two lists on n wires. Nothing is lent for output.
-pub fn compare(n: usize, first: &[u8], second: &[u8]) -> Compared
+pub fn compare(n: usize, first: &[u8], second: &[u8]) -> Result<Compared, Refusal>
     ensures { ComparesLists n first.now second.now result }
 {
-    let found = two_lists_reply(n, first, second);
-    if let Reply::Refused { number, place } = found {
-        return Compared::Refused {
-            number: number,
-            place: place,
-        };
-    }
+    check_lists(n, first, second)?;
     if act_alike(n, first, second) {
-        return Compared::Same;
+        return Ok(Compared::Same);
     }
-    Compared::Differ
+    Ok(Compared::Differ)
 }
 
 // The faults of the first list, with the wire count; then those of the second.
-fn two_lists_reply(n: usize, first: &[u8], second: &[u8]) -> Reply
-    ensures { result ≡ compare_reply n first.now second.now }
+fn check_lists(n: usize, first: &[u8], second: &[u8]) -> Result<(), Refusal>
+    ensures { told result ≡ compare_reply n first.now second.now }
 {
-    let found = list_reply(n, first, 0);
-    if let Reply::Refused { number, place } = found {
-        return Reply::Refused {
-            number: number,
-            place: place,
-        };
-    }
-    as_second(list_reply(n, second, 0))
+    check_list(n, first, Ok(()))?;
+    check_list(n, second, Ok(())).map_err(as_second)
 }
 
 // Whichever fault the second list has, it is told by one number, with its own place.
-fn as_second(found: Reply) -> Reply
-    ensures { result ≡ as_second found }
+fn as_second(found: Refusal) -> Refusal
+    ensures fault { result.fault ≡ Fault.SecondList }
+    ensures place { result.place ≡ found.place }
 {
-    match found {
-        Reply::Done => Reply::Done,
-        Reply::Refused { number: _, place } => Reply::Refused {
-            number: SECOND_LIST,
-            place: place,
-        },
+    Refusal {
+        fault: Fault::SecondList,
+        ..found
     }
 }

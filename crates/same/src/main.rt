@@ -63,7 +63,7 @@ fn has_arguments<R: Env>(rt: &R) -> bool {
     is_there(ARGUMENTS - 1) && !is_there(ARGUMENTS)
 }
 
-// Both files are read before either text is judged.
+// Both files are read before either text is judged. What cannot be written is told where it is.
 fn compare_files<R: Env + Files, W: Write, E: Write>(
     rt: &R,
     out: &mut W,

@@ -1,19 +1,17 @@
--- Each way out by its law.
-use Rattle.compare.proofs.CompareWays.{compare_differ, compare_refused, compare_same, may_compare}
+-- Where no fault is found, both lists are accepted, and what is decided is the answer.
+use mathlib.Core.Path.{◌≡◌}
+use borrow.Author.Rules.{rules}
+use Rattle.circuit.specs.Replies.{Done}
+use Rattle.compare.proofs.CompareWays.{compare_differ, may_compare}
+use Rattle.compare.specs.Entry.{compare_reply}
 use Rattle.compare.proofs.compare.Goals as goal
-
-pub returns-in-Refused : goal.returns-in-Refused
-returns-in-Refused c =
-    compare_refused c.two_lists_reply-found.ensures c.in-Refused.is
 
 pub act_alike-requires : goal.act_alike-requires
 act_alike-requires c =
-    may_compare c.two_lists_reply-found.ensures c.in_default.is
-
-pub returns-then-act_alike : goal.returns-then-act_alike
-returns-then-act_alike c =
-    compare_same c.two_lists_reply-found.ensures c.in_default.is (c.act_alike.ensures.0 (search))
+    let clear : compare_reply c.args.n c.args.first.now c.args.second.now ≡ Done = search rules in
+    may_compare clear
 
 pub returns : goal.returns
 returns c =
-    compare_differ c.two_lists_reply-found.ensures c.in_default.is (c.act_alike.ensures.1 (search))
+    let clear : compare_reply c.args.n c.args.first.now c.args.second.now ≡ Done = search rules in
+    compare_differ clear (c.act_alike.ensures.1 (search))

@@ -1,14 +1,11 @@
--- The parities of n wires are lent.
-use mathlib.Core.Path.{sym}
-use native.Mathlib.Omega.{arith}
-use Rattle.sums.proofs.Lending.{counted, front_fits, front_long}
+-- The sums tell nothing exactly where the coefficients are the same.
+use Prim.Native.Nat.{◌^◌, ◌≤◌}
+use lib.Pow.{pow_mono}
+use Rattle.circuit.specs.Limits.{max_wires, parities}
+use Rattle.compare.proofs.BySums.{decided_by_sums}
 use Rattle.compare.proofs.deciding.same_coefficients.Goals as goal
 
-pub slice_bounds-s-end : goal.slice_bounds-s-end
-slice_bounds-s-end c = omega (arith, counted c.args.n c.requires.0)
-
-pub slice_bounds-same_by_sums-end : goal.slice_bounds-same_by_sums-end
-slice_bounds-same_by_sums-end c = sym (front_long c.args.n c.requires.0)
-
-pub same_by_sums-requires : goal.same_by_sums-requires
-same_by_sums-requires c = (front_fits c.args.n c.requires.0, c.requires.1, c.requires.2)
+pub returns : goal.returns
+returns c =
+    let room : 2 ^ c.args.n ≤ parities = pow_mono {i = c.args.n} {j = max_wires} c.requires.0 in
+    decided_by_sums room c.requires.1 c.requires.2 c.put_difference_sums.ensures c.none_tells.ensures
