@@ -1,5 +1,5 @@
 -- The steps of the code that finds the new weights, over plain numbers and lists.
-use mathlib.Core.List.{List}
+use mathlib.Core.List.{List, ◌++◌}
 use mathlib.Core.Logic.{◌≢◌}
 use mathlib.Core.Path.{ap, refl, sym, ◌∙◌, ◌≡◌}
 use Prim.Native.Nat.{◌%◌, ◌*◌, ◌+◌, ◌<◌, ◌^◌, suc, zero, ℕ, ◌≤◌}
@@ -7,8 +7,10 @@ use native.Mathlib.Decide.{ℕ_discrete}
 use native.Mathlib.Numerals.{add-one}
 use native.Mathlib.Omega.{arith}
 use lib.Count.{ones}
-use lib.ListN.{length, length-set, set}
+use lib.ListN.{length, length-set, set, take}
 use lib.Seq.{get_or-set_other, get_or-set_same}
+use borrow.Rule.Slice.PartMut.{post_of}
+use Rattle.std.proofs.lemmas.List.{places}
 use Rattle.circuit.specs.Sound.{SoundMarks, SoundWeights, weight}
 use Rattle.gf2.proofs.Bit.{bit-pow_other}
 use Rattle.gf2.proofs.Sum.{sum-suc}
@@ -22,7 +24,7 @@ use Rattle.phase.proofs.Wires.{is_one, is_two}
 use Rattle.phase.specs.NewWeights.{apart, by_wires, new_weights, rest}
 use Rattle.sums.specs.Difference.{DifferenceSums}
 use Rattle.rests.proofs.BySums.{one_by_sums, pair_by_sums}
-use Rattle.rests.specs.Rests.{OneWire, RestsTo, most_rest, one_by, pair_by, rest_by}
+use Rattle.rests.specs.Rests.{RestsTo, most_rest, one_by, pair_by, rest_by}
 
 -- ---- the rest of a pair, and those with the wire of p summed
 
@@ -34,10 +36,10 @@ module _ (s : List ℕ) (p q : ℕ) where
   other_wire r ne e = e ∙ rw (apart_other p q (λ d. ne (sym d))) (omega arith)
 
 -- two wires of n are a parity of n
-pub pair_inside : {n : ℕ} {s : List ℕ} {p : ℕ} → OneWire n s p → (j : ℕ) → j < n → p ≢ 2 ^ j → p + 2 ^ j < 2 ^ n
-pair_inside {n} {s} {p} o j h ne =
-    let t = is_one n p o.inside o.one in
-    with_bit n p j h o.inside
+pub pair_inside : {n p : ℕ} → p < 2 ^ n → ones p ≡ 1 → (j : ℕ) → j < n → p ≢ 2 ^ j → p + 2 ^ j < 2 ^ n
+pair_inside {n} {p} inside one j h ne =
+    let t = is_one n p inside one in
+    with_bit n p j h inside
     (rw t.2 (bit-pow_other t.0 j (λ e. ne (t.2 ∙ ap (λ (i : ℕ). 2 ^ i) e))))
 
 -- the sum over the first k wires
@@ -86,6 +88,25 @@ rests_next {n} {k} {s} {out₀} {out} x t l e =
     go : (p : ℕ) → p < k + 1 → Dec (p ≡ k) → weight (set out k x) p ≡ (weight out₀ p + rest_by n s p) % 8
     go p h (yes d) = rw d (get_or-set_same out k x 0 l ∙ e ∙ ap (λ (y : ℕ). (y + rest_by n s k) % 8) (t.onward k (omega arith)))
     go p h (no ne) = get_or-set_other out k p x 0 ne ∙ t.added p (omega arith)
+
+-- the front, with its rests, stands in its place
+pub rests_end : {n k : ℕ} {s out front : List ℕ} → k ≤ length out → RestsTo n s k (take k out) front
+    → RestsTo n s k out (front ++ post_of 0 k out)
+rests_end {n} {k} {s} {out} {front} l t =
+    record {
+      as_long = grind (arith, places, t.as_long);
+      added = λ p h. front_at p h ∙ t.added p h ∙ rw (taken p h);
+      onward = λ p h. grind (arith, places, long);
+    }
+  where
+    long : length front ≡ k
+    long = t.as_long ∙ grind (arith, places)
+
+    front_at : (p : ℕ) → p < k → weight (front ++ post_of 0 k out) p ≡ weight front p
+    front_at p h = grind (arith, places, long)
+
+    taken : (p : ℕ) → p < k → weight (take k out) p ≡ weight out p
+    taken p h = grind (arith, places)
 
 -- ---- the marks with the rests added are the new weights
 

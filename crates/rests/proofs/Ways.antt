@@ -4,7 +4,6 @@ use mathlib.Core.List.{List}
 use mathlib.Core.Logic.{◌↔◌}
 use mathlib.Core.Path.{sym, ◌∙◌, ◌≡◌}
 use Prim.Native.Nat.{ℕ, ◌≤◌}
-use lib.ListN.{length}
 use Rattle.circuit.proofs.Judging.{or_pass, or_well}
 use Rattle.circuit.proofs.TableRule.{marks_sound}
 use Rattle.circuit.specs.Limits.{max_wires, parities, table_bytes}
@@ -24,6 +23,6 @@ new_weights_passes n w marks out = (
 )
 
 -- what the writer needs, where the fault f that was found is none
-pub new_fits : (n : ℕ) (w m out : List ℕ) (f : ℕ) → f ≡ new_weights_fault n w m (length out) → f ≡ 0
-    → (n ≤ max_wires) × SoundWeights parities n w × SoundMarks parities n m × (length out ≡ table_bytes)
-new_fits n w m out f e z = let a = (new_weights_passes n w m (length out)).0 (sym e ∙ z) in (a.0.1, a.2.0, a.2.1, a.1)
+pub new_fits : (n : ℕ) (w m : List ℕ) (out f : ℕ) → f ≡ new_weights_fault n w m out → f ≡ 0
+    → (n ≤ max_wires) × SoundWeights parities n w × SoundMarks parities n m
+new_fits n w m out f e z = let a = (new_weights_passes n w m out).0 (sym e ∙ z) in (a.0.1, a.2.0, a.2.1)

@@ -4,7 +4,6 @@ use Rattle.std.specs.Int.Count.{ones}
 use Rattle.circuit.specs.Sound.{weight}
 use Rattle.gf2.specs.Sum.{sum}
 use Rattle.phase.specs.NewWeights.{apart, by_wires}
-use Rattle.sums.specs.Difference.{SumsFit}
 
 -- ---- the rests, by the sums
 
@@ -23,14 +22,6 @@ rest_by n s p = by_wires (ones p) (one_by n s p) (pair_by (weight s p))
 -- no rest is more than this
 abbrev pub most_rest : ℕ
 most_rest = 3 * 3
-
--- ---- what the code takes
-
--- room for the sums of n wires, and the parity p of one of them
-pub record OneWire (n : ℕ) (s : List ℕ) (p : ℕ) : Type 0 where
-  pub fits : SumsFit n s
-  pub inside : p < 2 ^ n
-  pub one : ones p ≡ 1
 
 -- ---- what it leaves
 

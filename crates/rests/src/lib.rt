@@ -24,7 +24,13 @@ pub fn new_weights(n: usize, weights: &[Weight], marks: &[Mark], out: &mut [Weig
             place: 0,
         };
     }
-    put_new_weights(n, weights, marks, out);
+    // Without a fault each is as long as a table.
+    put_new_weights(
+        n,
+        weights.as_array().unwrap(),
+        marks.as_array().unwrap(),
+        out.as_mut_array().unwrap(),
+    );
     Reply::Done
 }
 

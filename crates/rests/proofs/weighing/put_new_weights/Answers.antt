@@ -1,16 +1,12 @@
--- The parities of n wires are lent.
-use mathlib.Core.Path.{sym}
-use native.Mathlib.Omega.{arith}
-use Rattle.sums.proofs.Lending.{counted, front_fits, front_long}
+-- The marks with the rests by the sums.
+use Prim.Native.Nat.{◌^◌, ◌≤◌}
+use lib.Pow.{pow_mono}
+use Rattle.circuit.specs.Limits.{max_wires, parities}
+use Rattle.rests.proofs.RestSteps.{new_made}
 use Rattle.rests.proofs.weighing.put_new_weights.Goals as goal
 
-pub slice_bounds-s-end : goal.slice_bounds-s-end
-slice_bounds-s-end c = omega (arith, counted c.args.n c.requires.0)
-
-pub slice_bounds-put_by_sums-end : goal.slice_bounds-put_by_sums-end
-slice_bounds-put_by_sums-end c = sym (front_long c.args.n c.requires.0)
-
-pub put_by_sums-requires : goal.put_by_sums-requires
-put_by_sums-requires c =
+pub returns : goal.returns
+returns c =
     let a = c.requires in
-    (a.1, a.2, front_fits c.args.n a.0, a.3)
+    let room : 2 ^ c.args.n ≤ parities = pow_mono {i = c.args.n} {j = max_wires} a.0 in
+    new_made room a.1 a.2 c.put_difference_sums.ensures c.copy_from_slice.ensures.after c.add_rests.ensures
