@@ -1,2 +1,1 @@
 pub mod SetsNamed
-pub mod Offering

@@ -14,7 +14,9 @@ use Rattle.circuit.proofs.OddSet.{members_sum}
 use Rattle.circuit.specs.Limits.{max_members, max_wires, move_cells, move_head, parities, product_bits, table_bytes}
 use Rattle.circuit.specs.OddSet.{member_count}
 use Rattle.circuit.specs.Sound.{weight}
+use Rattle.echelon.specs.Mask.{AllPassed, Passed}
 use Rattle.echelon.specs.Slots.{NextSlot, SlotMembers}
+use Rattle.echelon.specs.declared.mask.SlotsOf.{SlotsOf}
 use Rattle.gf2.proofs.Combination.{combine-whole}
 use Rattle.gf2.proofs.Selection.{combine-first, combine-next}
 use Rattle.gf2.proofs.Steady.{steady}
@@ -31,7 +33,7 @@ use Rattle.moves.specs.CarryOut.{flip}
 use Rattle.moves.specs.Log.{as_cells}
 use Rattle.moves.specs.Pair.{PairIn, mended, named}
 use Rattle.moves.specs.Sets.{listed}
-use Rattle.kernel.specs.Naming.{Few, FewBelow, MoveOf, NamesSet, NoPair, NoneFrom, PairAt, SetNamed, listed_cells, set_with, total_with}
+use Rattle.kernel.specs.Naming.{Few, FewBelow, MoveOf, NamesSet, NoPair, NoneFrom, SetNamed, listed_cells, set_with, total_with}
 
 -- the member of a slot is a parity
 pub member_fits : {member : List ℕ} {s y : ℕ} → SlotMembers member → s < product_bits → y ≡ get_or member s 0 → y < parities
@@ -97,73 +99,64 @@ xor_whole m a {member} h is =
 flip_none : (w : List ℕ) (top top' q : ℕ) → top ≤ top' → q ≤ top' → NoneFrom (top + 1) w → NoneFrom (top' + 1) (flip w q)
 flip_none w top top' q l g none p h = get_or-set_other w q p ((get_or w q 0 + 1) % 2) 0 (omega arith) ∙ none p (omega arith)
 
--- those below k were gone through, and s is the next one that m names: the marks, their xor x, and what none of them is above
-pub record NamedTo (a m : ℕ) (member : List ℕ) (s : ℕ) (marks : List ℕ) (x top : ℕ) : Type 0 where
-  pub k : ℕ
-  pub inside : k ≤ product_bits
-  pub next : NextSlot m k s
-  pub marks_are : marks ≡ named parities member m k
-  pub xor_is : x ≡ combine (m % 2 ^ k) member
+-- those passed were gone through: the marks, their xor x, and what none of them is above
+pub record NamedTo (a m : ℕ) (member : List ℕ) (l : SlotsOf) (marks : List ℕ) (x top : ℕ) : Type 0 where
+  pub mask_is : l.mask ≡ m
+  pub marks_are : marks ≡ named parities member m l.from
+  pub xor_is : x ≡ combine (m % 2 ^ l.from) member
   pub a_to : a ≤ top
   pub fits : top < parities
   pub none : NoneFrom (top + 1) marks
 
-pub naming_start : (m : ℕ) (member : List ℕ) {a s : ℕ} {marks : List ℕ} → a < parities → marks ≡ replicate table_bytes 0 → NextSlot m 0 s
-    → NamedTo a m member s marks 0 a
+pub naming_start : (m : ℕ) (member : List ℕ) {a : ℕ} {l : SlotsOf} {marks : List ℕ} → a < parities → marks ≡ replicate table_bytes 0
+    → (l.mask ≡ m) × (l.from ≡ 0)
+    → NamedTo a m member l marks 0 a
 unfolding named
 naming_start m member {a} fits e t =
     record {
-      k = 0;
-      inside = omega arith;
-      next = t;
-      marks_are = e;
-      xor_is = xor_start m member;
+      mask_is = t.0;
+      marks_are = rw t.1 e;
+      xor_is = rw t.1 (xor_start m member);
       a_to = le_refl a;
       fits = fits;
       none = λ p l. ap (λ (w : List ℕ). get_or w p 0) e ∙ get_or-zeros table_bytes p;
     }
 
-module _ {a m : ℕ} {member : List ℕ} {s : ℕ} {marks : List ℕ} {x top : ℕ} (h : NamedTo a m member s marks x top) where
-  pub naming_long : length marks ≡ table_bytes
-  naming_long = ap length h.marks_are ∙ named_length parities member m h.k
-
-  -- the slots between change nothing
-  marks_at : (n : ℕ) → h.k ≤ n → n ≤ s → marks ≡ named parities member m n
-  marks_at n g l =
+module _ {a m : ℕ} {member : List ℕ} {l : SlotsOf} {marks : List ℕ} {x top : ℕ} (h : NamedTo a m member l marks x top) where
+  -- the slots up to the next change nothing
+  marks_at : {s : ℕ} → NextSlot l.mask l.from s → marks ≡ named parities member m s
+  marks_at {s} next =
       h.marks_are
-      ∙ sym (steady (named parities member m) h.k n g
-      (λ j f i e. named_off parities member m j (h.next.passed j f (omega arith)) ∙ e))
+      ∙ sym (steady (named parities member m) l.from s next.from
+      (λ j f i e. named_off parities member m j (rw h.mask_is at (next.passed j f i)) ∙ e))
 
-  xor_at : (n : ℕ) → h.k ≤ n → n ≤ s → x ≡ combine (m % 2 ^ n) member
-  xor_at n g l =
+  xor_at : {s : ℕ} → NextSlot l.mask l.from s → x ≡ combine (m % 2 ^ s) member
+  xor_at {s} next =
       h.xor_is
-      ∙ sym (steady (λ (j : ℕ). combine (m % 2 ^ j) member) h.k n g
-      (λ j f i e. xor_off m j member (h.next.passed j f (omega arith)) ∙ e))
+      ∙ sym (steady (λ (j : ℕ). combine (m % 2 ^ j) member) l.from s next.from
+      (λ j f i e. xor_off m j member (rw h.mask_is at (next.passed j f i)) ∙ e))
 
   module _ (slots : SlotMembers member) where
-    pub naming_turn : {y s' : ℕ} {marks' : List ℕ} → s < product_bits → y ≡ get_or member s 0 → marks' ≡ flip marks y
-        → NextSlot m (s + 1) s'
-        → NamedTo a m member s' marks' (bit_xor x y) (bit_or top y)
-    naming_turn {y} {s'} {marks'} l of t next =
-        let on : bit m s ≡ 1 = h.next.on l in
+    pub naming_turn : {s y : ℕ} {l' : SlotsOf} {marks' : List ℕ} → Passed l s l' → y ≡ get_or member s 0 → marks' ≡ flip marks y
+        → NamedTo a m member l' marks' (bit_xor x y) (bit_or top y)
+    naming_turn {s} {y} p of t =
+        let on : bit m s ≡ 1 = rw h.mask_is at (p.slot.on p.inside) in
         record {
-          k = s + 1;
-          inside = omega arith;
-          next = next;
-          marks_are = t ∙ ap₂ flip (marks_at s h.next.from (le_refl s)) of ∙ sym (named_on parities member m s on);
-          xor_is = ap₂ bit_xor (xor_at s h.next.from (le_refl s)) of ∙ sym (xor_on m s member on);
+          mask_is = p.mask_is ∙ h.mask_is;
+          marks_are = rw p.from_is (t ∙ ap₂ flip (marks_at p.slot) of ∙ sym (named_on parities member m s on));
+          xor_is = rw p.from_is (ap₂ bit_xor (xor_at p.slot) of ∙ sym (xor_on m s member on));
           a_to = omega (arith, h.a_to, or_left top y);
-          fits = or_lt max_wires top y h.fits (member_fits slots l of);
+          fits = or_lt max_wires top y h.fits (member_fits slots p.inside of);
           none = rw t (flip_none marks top (bit_or top y) y (or_left top y) (or_right top y) h.none);
         }
 
     -- all slots passed, and a is marked
-    pub naming_end : {marks' : List ℕ} → a < parities → product_bits ≤ s → marks' ≡ flip marks a
+    pub naming_end : {l' : SlotsOf} {marks' : List ℕ} → a < parities → AllPassed l l' → marks' ≡ flip marks a
         → NamesSet a m member marks' (bit_xor x a) top
-    naming_end a_fits l t =
+    naming_end a_fits p t =
         record {
-          named = set-marks m slots a_fits (marks_at product_bits h.inside l) t;
-          total_is = xor_whole m a slots (xor_at product_bits h.inside l);
+          named = set-marks m slots a_fits (marks_at p.none) t;
+          total_is = xor_whole m a slots (xor_at p.none);
           fits = h.fits;
           none = rw t (flip_none marks top top a (le_refl top) h.a_to h.none);
         }
@@ -226,34 +219,42 @@ module _ {set : List ℕ} (h : Few set) (z y : ℕ) (z_fits : z < parities) (y_f
 
 -- ---- the search for one of a pair
 
--- it is none of the members of the first k slots that m names
-abbrev pub NoneTo : List ℕ → ℕ → List ℕ → ℕ → List ℕ → ℕ → Type 0
-NoneTo marks z set m member k = (j : ℕ) → j < k → bit m j ≡ 1 → PairIn marks z set (get_or member j 0) → ⊥
+-- it is none of the members of those slots passed that m names
+pub record NoneTo (marks : List ℕ) (z : ℕ) (set : List ℕ) (m : ℕ) (member : List ℕ) (l : SlotsOf) : Type 0 where
+  pub mask_is : l.mask ≡ m
+  pub none : (j : ℕ) → j < l.from → bit m j ≡ 1 → PairIn marks z set (get_or member j 0) → ⊥
 
-pub pair_found : {marks set : List ℕ} {z y : ℕ} → length set ≡ table_bytes → y < parities → PairIn marks z set y → PairAt marks z set y
-pair_found long l p = record { some = λ h. p; none = λ h. absurd (omega arith) }
+pub none_start : (marks set : List ℕ) (z : ℕ) {m : ℕ} (member : List ℕ) {l : SlotsOf} → (l.mask ≡ m) × (l.from ≡ 0)
+    → NoneTo marks z set m member l
+none_start marks set z member t = record { mask_is = t.0; none = λ j l e q. omega (arith, t.1) }
 
-module _ (marks set : List ℕ) (z m : ℕ) (member : List ℕ) {k : ℕ} (none : NoneTo marks z set m member k) where
-  -- nor of those up to the next that m names
-  pub none_next : {s : ℕ} → NextSlot m k s → NoneTo marks z set m member s
-  none_next t j l e q = go (dec_lt j k)
+module _ {marks set : List ℕ} {z m : ℕ} {member : List ℕ} {l : SlotsOf} (h : NoneTo marks z set m member l) where
+  -- nor of those up to the next
+  none_at : {s : ℕ} → NextSlot l.mask l.from s → (j : ℕ) → j < s → bit m j ≡ 1 → PairIn marks z set (get_or member j 0) → ⊥
+  none_at t j i e q = go (dec_lt j l.from)
     where
-      go : Dec (j < k) → ⊥
-      go (yes g) = none j g e q
-      go (no g) = omega (arith, e, t.passed j (omega arith) l)
+      go : Dec (j < l.from) → ⊥
+      go (yes g) = h.none j g e q
+      go (no g) = omega (arith, e, rw h.mask_is at (t.passed j (omega arith) i))
 
-  -- the member of slot k is none
-  pub none_lone : {y : ℕ} → y ≡ get_or member k 0 → (PairIn marks z set y → ⊥) → NoneTo marks z set m member (k + 1)
-  none_lone is never j l e q = go (ℕ_discrete j k)
+  -- the member of the next is none
+  pub none_turn : {s y : ℕ} {l' : SlotsOf} → Passed l s l' → y ≡ get_or member s 0 → (PairIn marks z set y → ⊥)
+      → NoneTo marks z set m member l'
+  none_turn {s} p is never =
+      record { mask_is = p.mask_is ∙ h.mask_is; none = λ j i e q. go j (omega (arith, p.from_is)) e q (ℕ_discrete j s) }
     where
-      go : Dec (j ≡ k) → ⊥
-      go (yes d) = never (rw is (rw d at q))
-      go (no ne) = none j (omega arith) e q
+      go : (j : ℕ) → j < s + 1 → bit m j ≡ 1 → PairIn marks z set (get_or member j 0) → Dec (j ≡ s) → ⊥
+      go j i e q (yes d) = never (rw is (rw d at q))
+      go j i e q (no ne) = none_at p.slot j (omega arith) e q
+
+  pub none_end : {l' : SlotsOf} → AllPassed l l' → (j : ℕ) → j < product_bits → bit m j ≡ 1 → PairIn marks z set (get_or member j 0) → ⊥
+  none_end p = none_at p.none
 
 -- none of the slots' members, nor a: none at all
-pub no_pair : (marks : List ℕ) (z a m : ℕ) (member : List ℕ) {k : ℕ} → (PairIn marks z (set_with a m member) a → ⊥)
-    → NoneTo marks z (set_with a m member) m member k → product_bits ≤ k → NoPair marks z a m member
-no_pair marks z a m member {k} a_none none all y q = go (ℕ_discrete y a)
+pub no_pair : (marks : List ℕ) (z a m : ℕ) (member : List ℕ) → (PairIn marks z (set_with a m member) a → ⊥)
+    → ((j : ℕ) → j < product_bits → bit m j ≡ 1 → PairIn marks z (set_with a m member) (get_or member j 0) → ⊥)
+    → NoPair marks z a m member
+no_pair marks z a m member a_none none y q = go (ℕ_discrete y a)
   where
     w₀ : List ℕ
     w₀ = named parities member m product_bits
@@ -263,96 +264,101 @@ no_pair marks z a m member {k} a_none none all y q = go (ℕ_discrete y a)
     go (no ne) =
         let f = named_from parities member m product_bits y
         (λ e. omega (arith, q.on, get_or-set_other w₀ a y ((get_or w₀ a 0 + 1) % 2) 0 ne)) in
-        none f.0 (omega (arith, f.1)) f.2 (rw f.3 q)
-
-pub pair_none : (marks : List ℕ) (z : ℕ) {set member : List ℕ} {a m k : ℕ} → SetNamed a m member set → (PairIn marks z set a → ⊥)
-    → NoneTo marks z set m member k → product_bits ≤ k → PairAt marks z set table_bytes
-pair_none marks z {set} {member} {a} {m} {k} w a_none none all =
-    record {
-      some = λ h. absurd (omega (arith, w.small.long));
-      none = λ h y q. no_pair marks z a m member (rw w.is at a_none) (rw w.is at none) all y (rw w.is at q);
-    }
+        none f.0 f.1 f.2 (rw f.3 q)
 
 -- where the partner of y is no member, y is not one of a pair
 pub no_partner : {marks set : List ℕ} {z y r p : ℕ} → r ≡ weight marks p → p ≡ bit_xor y z → r ≢ 1 → PairIn marks z set y → ⊥
 no_partner {marks} e f ne q = ne (e ∙ ap (weight marks) f ∙ q.partner)
 
+-- nor in a set that was named so
+pub pair_none : {marks set member : List ℕ} {z a m : ℕ} → SetNamed a m member set → (PairIn marks z set a → ⊥)
+    → ((j : ℕ) → j < product_bits → bit m j ≡ 1 → PairIn marks z set (get_or member j 0) → ⊥)
+    → (y : ℕ) → PairIn marks z set y → ⊥
+pair_none {marks} {set} {member} {z} {a} {m} w a_none none y q =
+    no_pair marks z a m member (rw w.is at a_none) (rw w.is at none) y (rw w.is at q)
+
 -- ---- the set named, searched and mended
 
-module _ {marks member set : List ℕ} {z a m r : ℕ} (w : SetNamed a m member set) (p : PairAt marks z set r) where
-  -- it has no one of a pair
-  pub move_none : table_bytes ≤ r → NoPair marks z a m member
-  move_none all y q = p.none (omega (arith, w.small.long)) y (rw w.is q)
+-- it has no one of a pair
+pub move_none : {marks member set : List ℕ} {z a m : ℕ} → SetNamed a m member set → ((y : ℕ) → PairIn marks z set y → ⊥)
+    → NoPair marks z a m member
+move_none w none y q = none y (rw w.is q)
 
-  module _ (l : r < table_bytes) where
-    one : PairIn marks z set r
-    one = p.some (omega (arith, w.small.long))
+module _ {marks member set : List ℕ} {z a m y : ℕ} (w : SetNamed a m member set) (p : (y < parities) × PairIn marks z set y) where
+  -- the partner of y is a parity, and so is an or with it
+  pub end_fits : {top : ℕ} → z < parities → top < parities → bit_or top (bit_xor y z) < parities
+  end_fits {top} z_fits top_fits = or_lt max_wires top (bit_xor y z) top_fits (xor_lt max_wires y z p.0 z_fits)
 
-    -- the partner of r is a parity, and so is an or with it
-    pub end_fits : (top : ℕ) → z < parities → top < parities → bit_or top (bit_xor r z) < parities
-    end_fits top z_fits top_fits = or_lt max_wires top (bit_xor r z) top_fits (xor_lt max_wires r z l z_fits)
+  -- mended, it is small enough still, and none of it is above that
+  pub mended_set : {total top e : ℕ} {set' : List ℕ} → z < parities → NamesSet a m member set total top → e ≡ bit_or top (bit_xor y z)
+      → set' ≡ mended total z y set → FewBelow (e + 1) set'
+  mended_set {total} {top} z_fits n e t =
+      rw (e, t) (record {
+        small = mended_few w.small z y z_fits p.0 p.1.on total;
+        inside = omega (arith, end_fits z_fits n.fits);
+        none = mended_below w.small z y z_fits p.0 p.1.on total top n.none;
+      })
 
-    -- mended, it is small enough still, and none of it is above that
-    pub mended_set : {total top e : ℕ} {set' : List ℕ} → z < parities → NamesSet a m member set total top → e ≡ bit_or top (bit_xor r z)
-        → set' ≡ mended total z r set → FewBelow (e + 1) set'
-    mended_set {total} {top} z_fits n e t =
-        rw (e, t) (record {
-          small = mended_few w.small z r z_fits l one.on total;
-          inside = omega (arith, end_fits top z_fits n.fits);
-          none = mended_below w.small z r z_fits l one.on total top n.none;
-        })
-
-    -- and its cells are those of the move
-    pub move_of : {total : ℕ} {set' cells : List ℕ} → total ≡ total_with a m member → set' ≡ mended total z r set
-        → cells ≡ listed_cells z set' → MoveOf marks z a m member cells
-    move_of x e f =
-        record {
-          y = r;
-          pair = subst (λ (u : List ℕ). PairIn marks z u r) w.is one;
-          is = f ∙ ap (listed_cells z) (e ∙ ap₂ (λ (i : ℕ) (u : List ℕ). mended i z r u) x w.is);
-        }
+  -- and its cells are those of the move
+  pub move_of : {total : ℕ} {set' cells : List ℕ} → total ≡ total_with a m member → set' ≡ mended total z y set
+      → cells ≡ listed_cells z set' → MoveOf marks z a m member cells
+  move_of x e f =
+      record {
+        y = y;
+        pair = subst (λ (u : List ℕ). PairIn marks z u y) w.is p.1;
+        is = f ∙ ap (listed_cells z) (e ∙ ap₂ (λ (i : ℕ) (u : List ℕ). mended i z y u) x w.is);
+      }
 
 -- ---- the loop over the marks
 
-pub list_none : (z : ℕ) (f : ℕ → ℕ) (cells : List ℕ) → cells ≡ set (replicate move_cells 0) 0 z
-    → cells ≡ as_cells max_members z (listed 0 f)
-unfolding listed
-list_none z f cells e = e ∙ sym (cells_none max_members z)
-
 -- the cells so far are those of the numbers below y that are marked
-abbrev pub ListedTo : ℕ → List ℕ → ℕ → List ℕ → Type 0
-ListedTo z marks y cells = cells ≡ as_cells max_members z (listed y (λ p. get_or marks p 0))
+pub record ListedTo (z : ℕ) (marks : List ℕ) (y : ℕ) (cells : List ℕ) : Type 0 where
+  pub is : cells ≡ as_cells max_members z (listed y (λ p. get_or marks p 0))
 
-module _ (z : ℕ) (marks : List ℕ) (h : Few marks) (y : ℕ) (inside : y < parities) (cells : List ℕ) (is : ListedTo z marks y cells) where
-  count : get_or cells 1 0 ≡ length (listed y (λ p. get_or marks p 0))
-  count = ap (λ (l : List ℕ). get_or l 1 0) is ∙ cells_count max_members z (listed y (λ p. get_or marks p 0))
+pub list_none : (z : ℕ) (marks : List ℕ) → ListedTo z marks 0 (set (replicate move_cells 0) 0 z)
+unfolding listed
+list_none z marks = record { is = sym (cells_none max_members z) }
+
+module _ {z y end : ℕ} {marks cells : List ℕ} (h : FewBelow end marks) (t : ListedTo z marks y cells) where
+  -- the numbers so far
+  abbrev Y : List ℕ
+  Y = listed y (λ p. get_or marks p 0)
+
+  count : get_or cells 1 0 ≡ length Y
+  count = ap (λ (l : List ℕ). get_or l 1 0) t.is ∙ cells_count max_members z Y
 
   -- there is room for one that is marked
-  pub list_room : get_or marks y 0 ≡ 1 → get_or cells 1 0 < max_members
-  list_room e =
+  pub list_room : y < end → get_or marks y 0 ≡ 1 → get_or cells 1 0 < max_members
+  list_room l e =
       omega (
         arith,
         count,
-        listed_room (λ p. get_or marks p 0) h.bits parities y inside e,
-        listed_length (λ p. get_or marks p 0) h.bits parities,
-        marked_sum marks h.long h.bits,
-        h.few,
+        listed_room (λ p. get_or marks p 0) h.small.bits parities y (omega (arith, h.inside)) e,
+        listed_length (λ p. get_or marks p 0) h.small.bits parities,
+        marked_sum marks h.small.long h.small.bits,
+        h.small.few,
       )
 
+  -- their number stays where it is, as a number goes in behind it
+  pub count_kept : (k x : ℕ) → get_or (set cells (k + move_head) x) 1 0 ≡ get_or cells 1 0
+  count_kept k x = get_or-set_other cells (k + move_head) 1 x 0 (omega arith)
+
   -- k of them so far: y goes after them, and they are one more
-  pub list_on : (k : ℕ) (cells₁ cells₂ : List ℕ) → get_or marks y 0 ≡ 1 → k ≡ get_or cells 1 0 → cells₁ ≡ set cells (k + move_head) y
-      → cells₂ ≡ set cells₁ 1 (k + 1) → ListedTo z marks (y + 1) cells₂
-  list_on k cells₁ cells₂ e c f g =
-      let Y : List ℕ = listed y (λ p. get_or marks p 0) in
-      let room : length Y < max_members = omega (arith, list_room e, count) in
-      rw (g, f, c, count, is) (cells_more max_members z Y y room
-      ∙ ap (as_cells max_members z) (sym (listed_on y (λ p. get_or marks p 0) e)))
+  pub list_on : {k : ℕ} → y < end → get_or marks y 0 ≡ 1 → k ≡ get_or cells 1 0
+      → ListedTo z marks (y + 1) (set (set cells (k + move_head) y) 1 (get_or (set cells (k + move_head) y) 1 0 + 1))
+  list_on {k} l e c =
+      let room : length Y < max_members = omega (arith, list_room l e, count) in
+      rw (count_kept k y, c, count, t.is) (record {
+        is = cells_more max_members z Y y room ∙ ap (as_cells max_members z) (sym (listed_on y (λ p. get_or marks p 0) e));
+      })
 
   pub list_off : get_or marks y 0 ≢ 1 → ListedTo z marks (y + 1) cells
-  list_off ne = is ∙ ap (as_cells max_members z) (sym (listed_off y (λ p. get_or marks p 0) (omega (arith, h.bits y))))
+  list_off ne =
+      record {
+        is = t.is ∙ ap (as_cells max_members z) (sym (listed_off y (λ p. get_or marks p 0) (omega (arith, h.small.bits y))));
+      }
 
 -- all that can be in the set were passed
-pub list_end : (z : ℕ) (marks : List ℕ) {end : ℕ} (cells : List ℕ) → FewBelow end marks → ListedTo z marks end cells
-    → cells ≡ listed_cells z marks
-list_end z marks {end} cells h is =
-    is ∙ ap (as_cells max_members z) (sym (listed_end end parities (λ p. get_or marks p 0) h.inside h.none))
+pub list_end : {z end : ℕ} {marks cells : List ℕ} → FewBelow end marks → ListedTo z marks end cells → cells ≡ listed_cells z marks
+list_end {end = end} {marks} h t =
+    t.is ∙ ap (as_cells max_members _) (sym (listed_end end parities (λ p. get_or marks p 0) h.inside h.none))

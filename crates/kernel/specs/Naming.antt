@@ -1,5 +1,5 @@
 -- What naming a set promises.
-use Rattle.std.specs.Prelude.{List, ◌≡◌, ◌+◌, ◌<◌, ◌≤◌, ℕ, get_or, length}
+use Rattle.std.specs.Prelude.{List, None, Option, Some, ◌≡◌, ◌+◌, ◌<◌, ◌≤◌, ℕ, get_or, length}
 use Rattle.std.specs.Int.Bits.{bit_xor}
 use Rattle.circuit.specs.Limits.{max_members, parities, product_bits, table_bytes}
 use Rattle.circuit.specs.OddSet.{member_count}
@@ -7,8 +7,6 @@ use Rattle.gf2.specs.Selection.{combine}
 use Rattle.moves.specs.Log.{as_cells}
 use Rattle.moves.specs.Pair.{PairIn, mended, named_with}
 use Rattle.moves.specs.Sets.{listed}
-use Rattle.moves.specs.declared.Sought.{Sought}
-use Rattle.moves.specs.declared.Sought.TheVariants.{Found, Nothing}
 
 -- marks of a set that is small enough for a move
 pub record Few (set : List ℕ) : Type 0 where
@@ -60,12 +58,12 @@ pub record MoveOf (marks : List ℕ) (z a m : ℕ) (member cells : List ℕ) : T
   pub pair : PairIn marks z (set_with a m member) y
   pub is : cells ≡ listed_cells z (mended (total_with a m member) z y (set_with a m member))
 
--- a move was written, or the cells are as they were
-abbrev pub WritesMove : List ℕ → ℕ → ℕ → ℕ → List ℕ → List ℕ → List ℕ → Sought → Type 0
-WritesMove marks z a m member cells cells' Found = MoveOf marks z a m member cells'
-WritesMove marks z a m member cells cells' Nothing = (cells' ≡ cells) × NoPair marks z a m member
+-- a move is given, or there is none
+abbrev pub WritesMove : List ℕ → ℕ → ℕ → ℕ → List ℕ → Option (List ℕ) → Type 0
+WritesMove marks z a m member (Some cells) = MoveOf marks z a m member cells
+WritesMove marks z a m member None = NoPair marks z a m member
 
--- the place of some y of the set whose partner is a member; or, where there is none, the number of places
-pub record PairAt (marks : List ℕ) (z : ℕ) (set : List ℕ) (r : ℕ) : Type 0 where
-  pub some : r < length set → PairIn marks z set r
-  pub none : length set ≤ r → (y : ℕ) → PairIn marks z set y → ⊥
+-- some y of the set whose partner is a member; or there is none
+abbrev pub PairAt : List ℕ → ℕ → List ℕ → Option ℕ → Type 0
+PairAt marks z set (Some y) = (y < parities) × PairIn marks z set y
+PairAt marks z set None = (y : ℕ) → PairIn marks z set y → ⊥

@@ -12,11 +12,10 @@ loop-s-init c = mask_start _ c.new-slots.ensures.0 c.new-slots.ensures.1
 pub loop-s-preserved : goal.loop-s-preserved
 loop-s-preserved c =
     let next = c.in-Some.ensures.steps in
-    mask_turn c.loop-s.invariant next.0 next.1
-    (c.turn_over.ensures.0 ∙ ap (λ (m : ℕ). bit_xor m (get_or c.args.self.now.by c.in-Some.s 0)) next.2)
-    (c.turn_over.ensures.1 ∙ next.3)
+    mask_turn c.loop-s.invariant next.inside next.slot
+    (c.turn_over.ensures.0 ∙ ap (λ (m : ℕ). bit_xor m (get_or c.args.self.now.by c.in-Some.s 0)) next.mask_is)
+    (c.turn_over.ensures.1 ∙ next.from_is)
 
 pub returns : goal.returns
 returns c =
-    let none = c.in_default.ensures.steps in
-    ap (λ l. l.mask) none.1 ∙ mask_at c.loop-s.invariant none.0
+    let last = c.in_default.ensures.steps in ap (λ l. l.mask) last.same ∙ mask_at c.loop-s.invariant last.none

@@ -2,9 +2,7 @@
 use mathlib.Core.List.{List}
 use mathlib.Core.Path.{◌∙◌, ap, sym}
 use Prim.Native.Nat.{ℕ}
-use lib.Bits.{bit_xor, xor_lt}
-use borrow.Author.Rules.{rules}
-use Rattle.circuit.specs.Limits.{max_wires}
+use lib.Bits.{bit_xor}
 use Rattle.moves.proofs.Finding.{mended_none, mended_some}
 use Rattle.moves.specs.CarryOut.{flip}
 use Rattle.kernel.proofs.naming.mend.Goals as goal
@@ -12,10 +10,6 @@ use Rattle.kernel.proofs.naming.mend.Goals as goal
 pub returns-then-total-eq0 : goal.returns-then-total-eq0
 returns-then-total-eq0 c =
     rw c.if-total-eq0.true (sym (mended_none c.args.z c.args.y c.args.set.now))
-
-pub flip_mark-requires-2 : goal.flip_mark-requires-2
-flip_mark-requires-2 c =
-    (search rules, xor_lt max_wires c.args.y c.args.z c.requires.2 c.requires.1)
 
 pub returns : goal.returns
 returns c =

@@ -8,8 +8,15 @@ use Rattle.echelon.proofs.mask.SlotsOfIterator.next.Goals as goal
 
 pub returns-then-s-ge-PRODUCT_BITS-clause-steps : goal.returns-then-s-ge-PRODUCT_BITS-clause-steps
 returns-then-s-ge-PRODUCT_BITS-clause-steps c =
-    (next_none (next_bit product_bits 64 c.args.self.now.mask c.args.self.now.from (omega arith)) c.args.self.now.inside (omega arith), refl)
+    let l = c.args.self.now in
+    record { none = next_none (next_bit product_bits 64 l.mask l.from (omega arith)) l.inside (omega arith); same = refl }
 
 pub returns-clause-steps : goal.returns-clause-steps
 returns-clause-steps c =
-    (omega arith, next_bit product_bits 64 c.args.self.now.mask c.args.self.now.from (omega arith), refl, refl)
+    let l = c.args.self.now in
+    record {
+      inside = omega arith;
+      slot = next_bit product_bits 64 l.mask l.from (omega arith);
+      mask_is = refl;
+      from_is = refl;
+    }
