@@ -37,7 +37,7 @@ impl OneZ {
     // z with its highest wire.
     pub fn new(z: Parity) -> Self
         requires { (z ≢ 0) × (z < parities) }
-        ensures { (result.z ≡ z) × LeadingBit z result.t }
+        ensures { (result.z ≡ z) × LeadingBit result.z result.t }
     {
         OneZ {
             z,
