@@ -36,6 +36,13 @@ impl Slots {
         }
     }
 
+    // All slots empty again. Nothing is stored but the mask.
+    pub fn clear(&mut self)
+        ensures { self.new.filled ≡ 0 }
+    {
+        self.filled = 0;
+    }
+
     // The column v goes in, unless it is a combination of the slots; says whether it has opened one.
     pub fn grow(&mut self, v: u64) -> bool
         requires { v < 2 ^ product_bits }

@@ -39,11 +39,11 @@ impl Echelon {
         }
     }
 
-    // All slots empty again. Nothing is stored but the mask.
+    // All slots empty again.
     pub fn clear(&mut self)
         ensures { self.new.slots.filled ≡ 0 }
     {
-        self.slots.back_to(0);
+        self.slots.clear();
     }
 
     // The column v of y goes in, unless it is a combination of the slots: then these, as a mask.

@@ -15,8 +15,8 @@ use naming::Dependency;
 // A move, by its cells.
 pub type Move = [MoveCell; MOVE_CELLS];
 
-// The move with the separating set that the column v of a offers for z, where it offers one: where it is a combination of the columns in the
-// slots, and these and a have one of a pair among them. A column that is no combination goes in. 0 is no member: then nothing is asked.
+// The move with the separating set that the column v of a offers for z, where it offers one: where it is a combination of the columns in
+// the slots, and these and a have one of a pair among them. A column that is no combination goes in. 0 is no member: then nothing is asked.
 pub fn offer(
     marks: &[Mark; TABLE_BYTES],
     a: Parity,

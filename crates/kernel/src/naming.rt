@@ -46,7 +46,7 @@ impl Dependency<'_> {
         Some(list(z, end, &set))
     }
 
-    // True only where neither a nor the member of a slot in the mask has its partner. Then the set has no one of a pair, and it is not named.
+    // True only where neither a nor the member of a slot in the mask has its partner. Then the set has no one of a pair, and is not named.
     fn all_lone(&self, marks: &[Mark; TABLE_BYTES], z: Parity) -> bool
         requires { z < parities }
         ensures { result ≡ true → NoPair marks.now z self.now.a self.now.mask self.now.columns.now.member }
