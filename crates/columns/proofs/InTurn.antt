@@ -6,22 +6,19 @@ use Prim.Native.Nat.{◌%◌, ◌*◌, ◌+◌, ◌-◌, ◌/◌, ◌<◌, ◌^�
 use native.Mathlib.Decide.{ℕ_discrete}
 use native.Mathlib.Nat.{one-mul, zero-mul}
 use native.Mathlib.Omega.{arith}
-use lib.Bits.{bit_xor, xor_lt}
+use lib.Bits.{bit_xor}
 use Rattle.std.proofs.Props.{props}
 use Rattle.std.specs.Prelude.{None, Option, Some}
 use lib.ListN.{get_or, length}
-use Rattle.circuit.specs.Limits.{max_wires, parities}
 use Rattle.circuit.specs.OddSet.{Member}
 use Rattle.circuit.specs.Sound.{weight}
 use Rattle.gf2.proofs.Bit.{bit-values}
 use Rattle.gf2.specs.Bit.{bit}
-use Rattle.gf2.specs.Over.{Below}
-use Rattle.moves.proofs.Keep.{member_lt}
 use Rattle.moves.proofs.Sets.{in_occ, occ-in}
 use Rattle.moves.specs.Pair.{Stands}
 use Rattle.columns.specs.OneZ.{Had, Members, Turn, TurnOf}
 
--- ---- members and their partners are parities
+-- ---- members
 
 -- what the struct of a search keeps is all that is said of its members: a place among them is found by looking
 pub members_had : {marks ys : List ℕ} → ∥ Members marks ys ∥₁ → Members marks ys
@@ -33,18 +30,8 @@ members_had {marks} {ys} h =
       listed = λ y p. occ-in y ys (∥∥₁_elim h (hlevel props) (λ m. in_occ y ys (m.listed y p)));
     }
 
-module _ {marks ys : List ℕ} {i y : ℕ} (m : Members marks ys) (l : i < length ys) (e : y ≡ get_or ys i 0) where
-  is_member : Member marks y
-  is_member = m.member y (i, l, sym e)
-
-  pub listed_below : y < parities
-  listed_below = member_lt parities max_wires marks m.sound y is_member
-
-  pub partner_below : {z : ℕ} → z < parities → bit_xor y z < parities
-  partner_below {z} h = xor_lt max_wires y z listed_below h
-
-pub members_below : {marks ys : List ℕ} → Members marks ys → Below parities ys
-members_below m i l = listed_below m l refl
+is_member : {marks ys : List ℕ} {i y : ℕ} → Members marks ys → i < length ys → y ≡ get_or ys i 0 → Member marks y
+is_member {i = i} {y = y} m l e = m.member y (i, l, sym e)
 
 -- ---- whose turn it is
 
@@ -195,7 +182,3 @@ module _ {marks ys : List ℕ} {z t i : ℕ} where
         go : Had marks ys z t i y ⊎ (r ≡ Some y) → Had marks ys z t i y
         go (inl p) = p
         go (inr e) = cc
-
--- who has a turn is a member, and a parity
-pub turn_below : {marks ys : List ℕ} {z t i y : ℕ} → Members marks ys → Turn marks ys z t i y → y < parities
-turn_below {marks} {y = y} m T = member_lt parities max_wires marks m.sound y T.stands.member

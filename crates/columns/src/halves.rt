@@ -65,7 +65,7 @@ impl Search<'_> {
         if self.members.len() > most {
             return;
         }
-        half.slots.back_to(0);
+        half.slots.clear();
         if self.all_open(&mut half.slots, |y| ((y >> t) % 2 == 0).then_some(y)) {
             half.apart = Some(half.slots.filled);
         }

@@ -26,7 +26,7 @@ pub struct Search<'a> {
 }
 
 // A number z and a wire t, its highest one by `new`.
-#[derive(Clone, Copy)]
+#[derive(Clone, Copy, Debug, PartialEq, Eq)]
 pub struct OneZ {
     pub z: Parity,
     pub t: usize,

@@ -1,11 +1,11 @@
 -- The members of marks as a list.
 use mathlib.Core.List.{List, [], ◌++◌, ◌∷◌}
 use mathlib.Core.Path.{◌∙◌, ◌≡◌, ap, refl, sym}
-use Prim.Native.Nat.{◌+◌, ◌-◌, ◌<◌, ◌^◌, ◌≤◌, suc, zero, ℕ}
+use Prim.Native.Nat.{◌+◌, ◌<◌, ◌^◌, ◌≤◌, suc, zero, ℕ}
 use native.Mathlib.Nat.{add-zero, le_refl}
 use native.Mathlib.Numerals.{add-one}
 use native.Mathlib.Omega.{arith}
-use lib.ListN.{drop, length, length-set, length-take, set, take}
+use lib.ListN.{length, length-set, length-take, set, take}
 use lib.Seq.{take-set-le, take-suc-set}
 use Rattle.circuit.specs.Limits.{max_wires, parities}
 use Rattle.circuit.specs.Sound.{SoundMarks, weight}

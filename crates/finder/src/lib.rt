@@ -10,46 +10,29 @@ ghost use Rattle.finder.specs.Search.{Searched};
 pub mod members;
 pub mod scan;
 
-use circuit::limits::{MOVE_CELLS, Mark, MoveCell, TABLE_BYTES};
+use circuit::faults::Refusal;
+use circuit::limits::{MAX_MARK, MOVE_CELLS, Mark, MoveCell, TABLE_BYTES};
 use columns::Search;
 use columns::table::Products;
-use judges::faults::lent_fault;
-use judges::table_faults::marks_call_fault;
+use judges::faults::check_lent;
+use judges::table_faults::check_call;
 use kernel::Move;
 use members::MemberList;
+use moves::Sought;
 use scan::scan;
-
-#[derive(Drop)]
-pub enum Finding {
-    // The cells lent hold a legal move, and none has a smaller z.
-    Found,
-    // No move is legal for these marks.
-    Nothing,
-    // Document 01's number and place of the fault.
-    Refused { number: u8, place: usize },
-}
 
 // Finds a legal move with the smallest z for the marks of an odd set and writes its cells. Where it finds none, and on refusal, the cells
 // stay as they were. The product table is made once, so that the scan only reads it.
-pub fn find(n: usize, marks: &[Mark], cells: &mut [MoveCell]) -> Finding
+pub fn find(n: usize, marks: &[Mark], cells: &mut [MoveCell]) -> Result<Sought, Refusal>
     ensures { FindMove n marks.now cells.old cells.new result }
 {
-    let fault = marks_call_fault(n, lent_fault(cells.len(), MOVE_CELLS), marks);
-    if fault != 0 {
-        return Finding::Refused {
-            number: fault,
-            place: 0,
-        };
-    }
-    let Some(marks) = marks.as_array::<TABLE_BYTES>() else {
-        unreachable!()
-    };
+    let marks = check_call(n, check_lent(cells.len(), MOVE_CELLS), MAX_MARK, marks)?;
     match search_by(&Products::new(), n, marks) {
         Some(found) => {
             cells.copy_from_slice(&found);
-            Finding::Found
+            Ok(Sought::Found)
         }
-        None => Finding::Nothing,
+        None => Ok(Sought::Nothing),
     }
 }
 
