@@ -1,3 +1,4 @@
 pub mod Carrying
 pub mod Ways
 pub mod Laws
+pub mod Chunks

@@ -12,7 +12,7 @@ use Rattle.circuit.proofs.TableRule.{marks_passes}
 use Rattle.circuit.specs.Faults.{bad_move, lent_fault, refuse}
 use Rattle.circuit.specs.Limits.{max_members, max_wires, parities, table_bytes}
 use Rattle.circuit.specs.Sound.{SoundMarks}
-use Rattle.circuit.specs.TableFaults.{Marked}
+use Rattle.circuit.specs.TableFaults.{Marked, call_fault, marks_fault}
 use Rattle.circuit.specs.Replies.{Reply}
 use Rattle.circuit.specs.Replies as reply
 use Rattle.moves.proofs.Deciding.{move_no, move_yes}
@@ -43,6 +43,15 @@ call_clear n marks = (
   λ e. ((marks_passes n (lent_fault (length marks) table_bytes) marks).0 e).0,
   λ m. (marks_passes n (lent_fault (length marks) table_bytes) marks).1 (m, lent_well (length marks) table_bytes m.sound.long),
 )
+
+-- the fault, as code finds it
+module _ (n : ℕ) (m : List ℕ) {lent f : ℕ} (lent_is : lent ≡ lent_fault (length m) table_bytes)
+    (fault_is : f ≡ call_fault n lent (marks_fault n m)) where
+  pub fault_said : f ≡ carry_fault n m
+  fault_said = fault_is ∙ ap (λ (x : ℕ). call_fault n x (marks_fault n m)) lent_is
+
+  pub marked_call : f ≡ 0 → Marked n m
+  marked_call z = (call_clear n m).0 (sym fault_said ∙ z)
 
 pub call_refused : {n f : ℕ} {m b : List ℕ} → f ≡ carry_fault n m → f ≢ 0 → CarriesOut n m b m (Refused f 0)
 unfolding judge

@@ -9,12 +9,11 @@ ghost use Rattle.carry.specs.Entry.{CarriesOut};
 
 pub mod flips;
 
-use circuit::cells::{cell_at, part};
 use circuit::limits::{MOVE_CELLS, Mark, MoveCell, TABLE_BYTES};
 use flips::carry;
 use judges::faults::{BAD_MOVE, lent_fault};
 use judges::table_faults::marks_call_fault;
-use legality::{is_move, set_of};
+use legality::legal_move;
 
 // What comes of a move.
 #[derive(Drop)]
@@ -37,23 +36,26 @@ pub fn carry_out(n: usize, marks: &mut [Mark], cells: &[MoveCell]) -> Moved
             place: 0,
         };
     }
-    if !is_move(marks, cells) {
+    let Some(marks) = marks.as_mut_array::<TABLE_BYTES>() else {
+        unreachable!()
+    };
+    let Some(said) = legal_move(marks, cells) else {
         return Moved::Refused {
             number: BAD_MOVE,
             place: 0,
         };
-    }
-    let differ = carry(marks, cell_at(cells, 0), set_of(cells));
-    Moved::Done { differ: differ }
+    };
+    let differ = carry(marks, said.z, said.ys);
+    Moved::Done { differ }
 }
 
 // The cells of move k, counted from 0, as part of the lent log; empty where the log is too short for it.
 pub fn move_at(log: &[MoveCell], k: usize) -> &[MoveCell]
     ensures { result.now ≡ move_at move_cells log.now k }
 {
-    if k < log.len() / MOVE_CELLS {
-        part(log, MOVE_CELLS * k, MOVE_CELLS * k + MOVE_CELLS)
-    } else {
-        part(log, 0, 0)
+    let (moves, _) = log.as_chunks::<MOVE_CELLS>();
+    match moves.get(k) {
+        Some(cells) => cells,
+        None => &[],
     }
 }

@@ -1,12 +1,13 @@
 -- Whether the columns for a z are apart: the members without wire t go in first, for all z with this wire; then, for one z, the members
 -- with it that have no partner. Where each of them opened a slot, no move with z is legal.
-use mathlib.Core.Bool.{Bool}
+use Rattle.std.specs.Prelude.{Bool, None, Option, Some}
 use mathlib.Core.List.{List}
 use mathlib.Core.Logic.{◌≢◌, ◌⊎◌, inl, inr}
 use mathlib.Core.Path.{◌∙◌, ◌≡◌, ap, refl, sym}
-use Prim.Native.Nat.{◌%◌, ◌*◌, ◌+◌, ◌/◌, ◌<◌, ◌^◌, ℕ}
+use Prim.Native.Nat.{◌%◌, ◌+◌, ◌/◌, ◌<◌, ◌^◌, ℕ}
 use native.Mathlib.Decide.{ℕ_discrete}
 use native.Mathlib.Nat.{le_refl}
+use native.Mathlib.Numerals.{add-one}
 use native.Mathlib.Omega.{arith}
 use lib.Bits.{bit_xor}
 use lib.ListN.{get_or, length}
@@ -14,8 +15,9 @@ use Rattle.circuit.specs.Limits.{max_members, max_wires, parities, product_bits}
 use Rattle.circuit.specs.Sound.{weight}
 use Rattle.columns.proofs.Entries.{entry_is}
 use Rattle.columns.specs.Table.{ProductEntry}
-use Rattle.echelon.proofs.Masks.{masked_kept}
-use Rattle.echelon.specs.Slots.{Grows, OpensSlot}
+use Rattle.echelon.specs.Columns.{Grows, holding}
+use Rattle.echelon.specs.Slots.{OpensSlot}
+use Rattle.echelon.specs.declared.basis.Slots.{Slots}
 use Rattle.gf2.proofs.Basis.{covers_more, covers_none, covers_some, covers_tags}
 use Rattle.gf2.proofs.Bit.{bit-lt, bit-values}
 use Rattle.gf2.proofs.Held.{held_none}
@@ -27,7 +29,8 @@ use Rattle.moves.proofs.Pairs.{partner_back}
 use Rattle.moves.specs.Column.{column}
 use Rattle.moves.specs.Pair.{Stands, pair_tag}
 use Rattle.moves.specs.Sets.{In}
-use Rattle.columns.specs.Halves.{HalfApart, HalfIn, Without}
+use Rattle.columns.specs.Halves.{BesideSingle, HalfApart, HalfIn, HalfStays, Keeps, OpenedTo, Without, opened, passed, start}
+use Rattle.columns.specs.declared.halves.Half.{Half}
 use Rattle.columns.specs.OneZ.{HasPair, Members, NoneWith, ToAsk}
 
 -- ---- members at places
@@ -104,21 +107,45 @@ half_all ys t {vec} h z τ =
     covers_some product_bits (column max_wires z t) τ (WithoutTo ys t (length ys)) (Without ys t) vec
     (λ y p. (placed_all p.0, p.1)) (h z τ)
 
--- the slots of the half, while others are filled: `filled` names them too, and they hold what they held
-pub record HalfKept (half : ℕ) (vec₀ : List ℕ) (filled : ℕ) (vec : List ℕ) : Type 0 where
-  pub inside : (s : ℕ) → bit half s ≡ 1 → bit filled s ≡ 1
-  pub same : held half vec ≡ held half vec₀
+-- where the members without wire t are picked, each for itself, and no others
+pub half_opened : (ys : List ℕ) (t : ℕ) {vec₀ : List ℕ} {P : ℕ → Option ℕ → Type 0} {vec : List ℕ} {i : ℕ}
+    → ((y : ℕ) → P y None → y / 2 ^ t % 2 ≢ 0) → ((y p : ℕ) → P y (Some p) → (p ≡ y) × (y / 2 ^ t % 2 ≡ 0))
+    → HalfTo ys t 0 vec₀ → OpenedTo P ys vec₀ i vec → HalfTo ys t i vec
+half_opened ys t none some h start = h
+half_opened ys t none some h (passed {i} o p) =
+    rw (← (add-one i)) (half_skip ys t i (half_opened ys t none some h o) refl (none _ p))
+half_opened ys t none some h (opened {i} {p} {v} o q entry opens) =
+    let s = some _ p q in
+    rw (← (add-one i)) (half_more ys t i (half_opened ys t none some h o) refl s.1 (rw s.0 at entry) opens)
 
-pub half_first : {half : ℕ} {vec : List ℕ} → HalfKept half vec half vec
-half_first = record { inside = λ s e. e; same = refl }
+-- what opened them are all slots
+pub half_known : {ys : List ℕ} {t : ℕ} {slots : Slots} → HalfApart ys t (holding slots)
+    → HalfIn ys t (record { slots = slots; apart = Some slots.filled })
+half_known {ys} {t} {slots} h =
+    record {
+      known = λ m e. let i : slots.filled ≡ m = cc in rw i at h;
+      within = λ m e s b. let i : slots.filled ≡ m = cc in rw i b;
+    }
 
-pub half_next : {half v filled more : ℕ} {vec₀ vec vec' : List ℕ} → HalfKept half vec₀ filled vec → Grows v filled vec vec' more
-    → HalfKept half vec₀ more vec'
-half_next {half} h g = record { inside = λ s e. g.wider s (h.inside s e); same = g.kept half h.inside ∙ h.same }
+-- slots that are kept
+pub keeps_all : {slots : Slots} → Keeps slots slots
+keeps_all = record { wider = λ s e. e; kept = λ g w. refl }
 
-pub half_kept : {ys : List ℕ} {t : ℕ} {apart : Bool} {filled : ℕ} {vec vec' : List ℕ} → HalfIn ys t apart filled vec
-    → held filled vec' ≡ held filled vec → HalfIn ys t apart filled vec'
-half_kept h e = record { known = λ a. rw e (h.known a); masked = masked_kept h.masked e }
+pub keeps_more : {v : ℕ} {before slots slots' : Slots} {opened : Bool} → Keeps before slots → Grows v slots slots' opened
+    → Keeps before slots'
+keeps_more k g =
+    record {
+      wider = λ s e. g.wider s (k.wider s e);
+      kept = λ m w. g.kept m (λ s e. k.wider s (w s e)) ∙ k.kept m w;
+    }
+
+-- the slots of the half stay where those of a wider mask are kept
+pub half_kept : {ys : List ℕ} {t : ℕ} {half half' : Half} → HalfIn ys t half → HalfStays half half' → HalfIn ys t half'
+half_kept h s =
+    record {
+      known = λ m e. rw (s.kept m (sym s.apart ∙ e)) (h.known m (sym s.apart ∙ e));
+      within = λ m e. s.within m (sym s.apart ∙ e);
+    }
 
 -- ---- for a z, the members with wire t that have no partner
 
@@ -158,8 +185,7 @@ module _ (marks ys : List ℕ) (z t i : ℕ) {y : ℕ} {vec : List ℕ} (h : Apa
       back x (inr p) = inr (p.0, placed x p.0 (placed_last p.1))
 
   -- since it does not name t
-  pub apart_off : y / 2 ^ t % 2 ≢ 1 → ApartTo marks ys z t (i + 1) vec
-  unfolding bit
+  pub apart_off : bit y t ≢ 1 → ApartTo marks ys z t (i + 1) vec
   apart_off ne = apart_skip (λ q. ne q.1)
 
   -- or since its partner is marked
@@ -167,7 +193,7 @@ module _ (marks ys : List ℕ) (z t i : ℕ) {y : ℕ} {vec : List ℕ} (h : Apa
   apart_paired m mark ne = apart_skip (λ q. q.0.alone q.1 (omega (arith, mark, m.sound.bits (bit_xor y z))))
 
   -- it is one of them, and its column opened a slot
-  pub apart_more : {v : ℕ} {vec' : List ℕ} → y / 2 ^ t % 2 ≡ 1 → ProductEntry (bit_xor y z) v → OpensSlot v vec vec'
+  pub apart_more : {v : ℕ} {vec' : List ℕ} → bit y t ≡ 1 → ProductEntry (bit_xor y z) v → OpensSlot v vec vec'
       → ApartTo marks ys z t (i + 1) vec'
   unfolding bit
   apart_more {v} on entry o τ =
@@ -185,6 +211,22 @@ module _ (marks ys : List ℕ) (z t i : ℕ) {y : ℕ} {vec : List ℕ} (h : Apa
           go : Placed ys i x ⊎ (x ≡ get_or ys i 0) → ApartAt marks ys z t i x ⊎ (x ≡ y)
           go (inl q) = inl (inr (p.0, q))
           go (inr e) = inr (e ∙ sym is)
+
+-- where the members with wire t that have no partner are picked, each for its partner
+pub apart_opened : (marks ys : List ℕ) (z t : ℕ) {vec₀ : List ℕ} {P : ℕ → Option ℕ → Type 0} {vec : List ℕ} {i : ℕ} → Members marks ys
+    → ((y : ℕ) (r : Option ℕ) → P y r → BesideSingle marks z t y r)
+    → ApartTo marks ys z t 0 vec₀ → OpenedTo P ys vec₀ i vec → ApartTo marks ys z t i vec
+apart_opened marks ys z t m picks h start = h
+apart_opened marks ys z t {vec = vec} m picks h (passed {i} o p) =
+    rw (← (add-one i)) (passes (apart_opened marks ys z t m picks h o) (picks _ None p))
+  where
+    passes : ApartTo marks ys z t i vec → BesideSingle marks z t (get_or ys i 0) None → ApartTo marks ys z t (i + 1) vec
+    passes before (inl off) = apart_off marks ys z t i before refl off
+    passes before (inr paired) = apart_paired marks ys z t i before refl m refl paired
+apart_opened marks ys z t m picks h (opened {i} {p} {v} o q entry opens) =
+    let s = picks _ (Some p) q in
+    rw (← (add-one i))
+    (apart_more marks ys z t i (apart_opened marks ys z t m picks h o) refl s.1 (rw s.0 at entry) opens)
 
 -- all members passed: every one that stands for its column is in, and no move with z is legal
 pub apart_none : {marks ys : List ℕ} {z t : ℕ} {vec : List ℕ} → Members marks ys → t < max_wires → bit z t ≡ 1
@@ -208,12 +250,7 @@ pub has_partner : {marks ys : List ℕ} {i y z r : ℕ} → Members marks ys →
     → r ≡ 1 → HasPair marks z
 has_partner {i = i} {y = y} m l is mark one = record { a = y; member = m.member y (i, l, sym is); partner = sym mark ∙ one }
 
--- it is not
-pub lone : (marks ys : List ℕ) (z i : ℕ) {y r : ℕ} → y ≡ get_or ys i 0 → r ≡ weight marks (bit_xor y z) → r ≢ 1
-    → weight marks (bit_xor (get_or ys i 0) z) ≢ 1
-lone marks ys z i is mark ne = rw (← is, ← mark) ne
-
--- nor is that of any member
+-- that of no member is
 pub no_partner : {marks ys : List ℕ} {z : ℕ} → Members marks ys → ((i : ℕ) → i < length ys → weight marks (bit_xor (get_or ys i 0) z) ≢ 1)
     → HasPair marks z → ⊥
 no_partner m none p = let i = m.listed p.a p.member in none i.0 i.1 (rw i.2 p.partner)
@@ -233,7 +270,3 @@ legal_pair never Y l =
 -- no turn
 pub ask_none : {marks ys : List ℕ} {z : ℕ} → NoneWith marks z → ToAsk marks ys z 0
 ask_none none = record { fits = omega arith; all = inr none }
-
--- all turns
-pub ask_all : {marks ys : List ℕ} {z : ℕ} → ToAsk marks ys z (2 * length ys)
-ask_all = record { fits = le_refl _; all = inl refl }

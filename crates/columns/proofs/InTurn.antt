@@ -1,37 +1,37 @@
 -- The turns of the columns of one z: who has turn i, and that everyone who stands has one.
 use mathlib.Core.List.{List}
-use mathlib.Core.Logic.{◌≢◌, ◌⊎◌, inl, inr}
+use mathlib.Core.Logic.{◌≢◌, ◌⊎◌, inl, inr, ∥∥₁_elim}
 use mathlib.Core.Path.{◌∙◌, ◌≡◌, ap, refl, sym}
 use Prim.Native.Nat.{◌%◌, ◌*◌, ◌+◌, ◌-◌, ◌/◌, ◌<◌, ◌^◌, ◌≤◌, suc, zero, ℕ}
 use native.Mathlib.Decide.{ℕ_discrete}
 use native.Mathlib.Nat.{one-mul, zero-mul}
 use native.Mathlib.Omega.{arith}
-use lib.Bits.{bit_xor, xor_lt}
+use lib.Bits.{bit_xor}
+use Rattle.std.proofs.Props.{props}
+use Rattle.std.specs.Prelude.{None, Option, Some}
 use lib.ListN.{get_or, length}
-use Rattle.circuit.specs.Limits.{max_wires, parities}
 use Rattle.circuit.specs.OddSet.{Member}
-use Rattle.circuit.specs.Sound.{SoundMarks, weight}
+use Rattle.circuit.specs.Sound.{weight}
 use Rattle.gf2.proofs.Bit.{bit-values}
 use Rattle.gf2.specs.Bit.{bit}
-use Rattle.gf2.specs.Over.{Below}
-use Rattle.moves.proofs.Keep.{member_lt}
+use Rattle.moves.proofs.Sets.{in_occ, occ-in}
 use Rattle.moves.specs.Pair.{Stands}
 use Rattle.columns.specs.OneZ.{Had, Members, Turn, TurnOf}
 
--- ---- members and their partners are parities
+-- ---- members
 
-module _ {marks ys : List ℕ} {i y : ℕ} (m : Members marks ys) (l : i < length ys) (e : y ≡ get_or ys i 0) where
-  is_member : Member marks y
-  is_member = m.member y (i, l, sym e)
+-- what the struct of a search keeps is all that is said of its members: a place among them is found by looking
+pub members_had : {marks ys : List ℕ} → ∥ Members marks ys ∥₁ → Members marks ys
+members_had {marks} {ys} h =
+    record {
+      sound = ∥∥₁_elim h (hlevel props) (λ m. m.sound);
+      few = ∥∥₁_elim h (hlevel props) (λ m. m.few);
+      member = ∥∥₁_elim h (hlevel props) (λ m. m.member);
+      listed = λ y p. occ-in y ys (∥∥₁_elim h (hlevel props) (λ m. in_occ y ys (m.listed y p)));
+    }
 
-  pub listed_below : y < parities
-  listed_below = member_lt parities max_wires marks m.sound y is_member
-
-  pub partner_below : {z : ℕ} → z < parities → bit_xor y z < parities
-  partner_below {z} h = xor_lt max_wires y z listed_below h
-
-pub members_below : {marks ys : List ℕ} → Members marks ys → Below parities ys
-members_below m i l = listed_below m l refl
+is_member : {marks ys : List ℕ} {i y : ℕ} → Members marks ys → i < length ys → y ≡ get_or ys i 0 → Member marks y
+is_member {i = i} {y = y} m l e = m.member y (i, l, sym e)
 
 -- ---- whose turn it is
 
@@ -46,6 +46,14 @@ turn_pair at w n e = rw e (omega (arith, zero-mul n))
 
 turn_single : (at w n : ℕ) → w ≡ 0 → at + (1 - w) * n ≡ at + n
 turn_single at w n e = rw e (omega (arith, one-mul n))
+
+-- no one has it, or y has and no other
+turn_none : {marks ys : List ℕ} {z t i : ℕ} → ((x : ℕ) → Turn marks ys z t i x → ⊥) → TurnOf marks ys z t i None
+turn_none never = record { its = λ y e. cc; only = λ x T. absurd (never x T) }
+
+turn_some : {marks ys : List ℕ} {z t i y : ℕ} → Turn marks ys z t i y → ((x : ℕ) → Turn marks ys z t i x → x ≡ y)
+    → TurnOf marks ys z t i (Some y)
+turn_some {y = y} its only = record { its = λ x e. let same : x ≡ y = cc in rw same its; only = λ x T. ap Some (sym (only x T)) }
 
 module _ {marks ys : List ℕ} {z t : ℕ} (m : Members marks ys) where
   -- the first turns: y stands at place i
@@ -62,31 +70,28 @@ module _ {marks ys : List ℕ} {z t : ℕ} (m : Members marks ys) where
         go (inr p) = absurd (omega (arith, T.inside, p.1))
 
     -- y names t, and its partner goes for it, or it has none
-    pub turn_with_wire : y / 2 ^ t % 2 ≡ 1 → TurnOf marks ys z t i 0
+    pub turn_with_wire : y / 2 ^ t % 2 ≡ 1 → TurnOf marks ys z t i None
     unfolding bit
-    turn_with_wire on =
-        record { its = λ n. absurd (n refl); only = λ x T. let f = first x T in absurd (f.1.alone on f.2) }
+    turn_with_wire on = turn_none (λ x T. let f = first x T in f.1.alone on f.2)
 
     -- it has none
-    pub turn_alone : {r : ℕ} → r ≡ weight marks (bit_xor y z) → r ≡ 0 → TurnOf marks ys z t i 0
-    turn_alone mark none = record { its = λ n. absurd (n refl); only = λ x T. absurd (omega (arith, mark, (first x T).2)) }
+    pub turn_alone : {r : ℕ} → r ≡ weight marks (bit_xor y z) → r ≡ 0 → TurnOf marks ys z t i None
+    turn_alone mark none = turn_none (λ x T. omega (arith, mark, (first x T).2))
 
     -- it is one of a pair
-    pub turn_of_pair : {r : ℕ} → y / 2 ^ t % 2 ≢ 1 → r ≡ weight marks (bit_xor y z) → r ≢ 0 → TurnOf marks ys z t i y
+    pub turn_of_pair : {r : ℕ} → y / 2 ^ t % 2 ≢ 1 → r ≡ weight marks (bit_xor y z) → r ≢ 0 → TurnOf marks ys z t i (Some y)
     unfolding bit
     turn_of_pair off mark some =
         let w : weight marks (bit_xor y z) ≡ 1 = omega (arith, m.sound.bits (bit_xor y z)) in
-        record {
-          its =
-              λ n. record {
-                stands = record { member = is_member m l is; alone = λ on. absurd (off on) };
-                at = i;
-                inside = l;
-                is = sym is;
-                turn = turn_pair i (weight marks (bit_xor y z)) (length ys) w;
-              };
-          only = λ x T. (first x T).0;
-        }
+        turn_some
+        (record {
+          stands = record { member = is_member m l is; alone = λ on. absurd (off on) };
+          at = i;
+          inside = l;
+          is = sym is;
+          turn = turn_pair i (weight marks (bit_xor y z)) (length ys) w;
+        })
+        (λ x T. (first x T).0)
 
   -- the others: y stands at place i - length ys
   module _ {i y : ℕ} (l : i - length ys < length ys) (from : length ys ≤ i) (is : y ≡ get_or ys (i - length ys) 0) where
@@ -101,25 +106,19 @@ module _ {marks ys : List ℕ} {z t : ℕ} (m : Members marks ys) where
             let e : x ≡ y = sym T.is ∙ ap (λ (k : ℕ). get_or ys k 0) k ∙ sym is in
             (e, rw e at p.0)
 
-    -- it has its partner
-    pub turn_had : {r : ℕ} → r ≡ weight marks (bit_xor y z) → r ≡ 1 → TurnOf marks ys z t i 0
-    turn_had mark one = record { its = λ n. absurd (n refl); only = λ x T. absurd (omega (arith, mark, (second x T).1)) }
-
     -- it has none
-    pub turn_of_single : {r : ℕ} → r ≡ weight marks (bit_xor y z) → r ≢ 1 → TurnOf marks ys z t i y
+    pub turn_of_single : {r : ℕ} → r ≡ weight marks (bit_xor y z) → r ≢ 1 → TurnOf marks ys z t i (Some y)
     turn_of_single mark none =
         let w : weight marks (bit_xor y z) ≡ 0 = omega (arith, m.sound.bits (bit_xor y z)) in
-        record {
-          its =
-              λ n. record {
-                stands = record { member = is_member m l is; alone = λ on p. omega (arith, w) };
-                at = i - length ys;
-                inside = l;
-                is = sym is;
-                turn = turn_single (i - length ys) (weight marks (bit_xor y z)) (length ys) w ∙ omega arith;
-              };
-          only = λ x T. (second x T).0;
-        }
+        turn_some
+        (record {
+          stands = record { member = is_member m l is; alone = λ on p. omega (arith, w) };
+          at = i - length ys;
+          inside = l;
+          is = sym is;
+          turn = turn_single (i - length ys) (weight marks (bit_xor y z)) (length ys) w ∙ omega arith;
+        })
+        (λ x T. (second x T).0)
 
   -- everyone who stands has a turn
   pub had_all : (y : ℕ) → Stands marks z t y → Had marks ys z t (2 * length ys) y
@@ -164,32 +163,22 @@ module _ {marks ys : List ℕ} {z t i : ℕ} where
   pub had_wider : (y : ℕ) → Had marks ys z t i y → Had marks ys z t (i + 1) y
   had_wider y h = (h.0, omega (arith, h.1), h.2)
 
-  module _ {r : ℕ} (T : TurnOf marks ys z t i r) where
+  module _ {r : Option ℕ} (T : TurnOf marks ys z t i r) where
     -- the next one, or one before
-    pub had_last : (y : ℕ) → Had marks ys z t (i + 1) y → Had marks ys z t i y ⊎ (y ≡ r)
+    pub had_last : (y : ℕ) → Had marks ys z t (i + 1) y → Had marks ys z t i y ⊎ (r ≡ Some y)
     had_last y h = go (ℕ_discrete h.0 i)
       where
-        go : Dec (h.0 ≡ i) → Had marks ys z t i y ⊎ (y ≡ r)
+        go : Dec (h.0 ≡ i) → Had marks ys z t i y ⊎ (r ≡ Some y)
         go (yes e) = inr (T.only y (rw e at h.2))
         go (no ne) = inl (h.0, omega (arith, h.1), h.2)
 
-    pub had_new : r ≢ 0 → Had marks ys z t (i + 1) r
-    had_new some = (i, omega arith, T.its some)
+    pub had_new : (y : ℕ) → r ≡ Some y → Had marks ys z t (i + 1) y
+    had_new y is = (i, omega arith, T.its y is)
 
-    -- 0 is no member, so it has no turn
-    pub had_none : SoundMarks parities max_wires marks → r ≡ 0 → (y : ℕ) → Had marks ys z t (i + 1) y → Had marks ys z t i y
-    had_none sound zero_r y h = go (had_last y h)
+    -- where no one has turn i, those before i + 1 are those before i
+    pub had_none : r ≡ None → (y : ℕ) → Had marks ys z t (i + 1) y → Had marks ys z t i y
+    had_none none y h = go (had_last y h)
       where
-        go : Had marks ys z t i y ⊎ (y ≡ r) → Had marks ys z t i y
+        go : Had marks ys z t i y ⊎ (r ≡ Some y) → Had marks ys z t i y
         go (inl p) = p
-        go (inr e) =
-            let marked : weight marks y ≡ 1 = h.2.stands.member in
-            absurd (omega (arith, sym marked ∙ ap (weight marks) (e ∙ zero_r) ∙ sound.none))
-
--- who has a turn is a parity
-pub turn_below : {marks ys : List ℕ} {z t i r : ℕ} → Members marks ys → TurnOf marks ys z t i r → r < parities
-turn_below {marks} {r = r} m T = go (ℕ_discrete r 0)
-  where
-    go : Dec (r ≡ 0) → r < parities
-    go (yes e) = omega arith
-    go (no ne) = member_lt parities max_wires marks m.sound r (T.its ne).stands.member
+        go (inr e) = cc

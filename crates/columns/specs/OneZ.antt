@@ -1,5 +1,5 @@
 -- What the functions say of one z with a wire t.
-use Rattle.std.specs.Prelude.{List, ◌≢◌, ◌⊎◌, ◌≡◌, ◌*◌, ◌+◌, ◌-◌, ◌<◌, ◌≤◌, ℕ, get_or, length}
+use Rattle.std.specs.Prelude.{List, Option, Some, ◌⊎◌, ◌≡◌, ◌*◌, ◌+◌, ◌-◌, ◌<◌, ◌≤◌, ℕ, get_or, length}
 use Rattle.std.specs.Int.Bits.{bit_xor}
 use Rattle.circuit.specs.Limits.{max_members, max_wires, parities}
 use Rattle.circuit.specs.OddSet.{Member}
@@ -39,10 +39,10 @@ pub record Turn (marks ys : List ℕ) (z t i y : ℕ) : Type 0 where
 abbrev pub Had : List ℕ → List ℕ → ℕ → ℕ → ℕ → ℕ → Type 0
 Had marks ys z t i y = (k : ℕ) × (k < i) × Turn marks ys z t k y
 
--- r has turn i, and no other has; it is 0 where none has
-pub record TurnOf (marks ys : List ℕ) (z t i r : ℕ) : Type 0 where
-  pub its : r ≢ 0 → Turn marks ys z t i r
-  pub only : (y : ℕ) → Turn marks ys z t i y → y ≡ r
+-- r has turn i, and no other has; it is nothing where none has
+pub record TurnOf (marks ys : List ℕ) (z t i : ℕ) (r : Option ℕ) : Type 0 where
+  pub its : (y : ℕ) → r ≡ Some y → Turn marks ys z t i y
+  pub only : (y : ℕ) → Turn marks ys z t i y → r ≡ Some y
 
 -- r turns are to be asked: all of them; or fewer, where no move with this z is legal
 pub record ToAsk (marks ys : List ℕ) (z r : ℕ) : Type 0 where

@@ -3,24 +3,45 @@
 // columns depend on each other at all (halves). Internal: no entry for users.
 #![tactic(auto)]
 
-ghost use Rattle.std.specs.Prelude.{◌≡◌, ◌<◌, ◌^◌};
-ghost use Rattle.circuit.specs.Limits.{max_wires, parities, product_bits};
-ghost use Rattle.moves.specs.Column.{column};
-ghost use Rattle.columns.specs.Table.{ProductTable};
+ghost use Rattle.std.specs.Prelude.{◌≢◌, ◌≡◌, ◌<◌};
+ghost use Rattle.circuit.specs.Limits.{max_wires, parities};
+ghost use Rattle.echelon.specs.Slots.{LeadingBit};
+ghost use Rattle.columns.specs.OneZ.{Members};
 
 pub mod halves;
 pub mod table;
 pub mod turns;
 
-use circuit::limits::{PARITIES, Parity};
-use moves::partner::bar;
-use table::product;
+use circuit::limits::{Mark, Parity, TABLE_BYTES};
+use echelon::leading;
+use table::Products;
 
-// The column of y for z and its wire t: the product entry of the one of y and y ^ z that does not name t.
-pub fn column(products: &[u64; PARITIES], z: Parity, t: usize, y: Parity) -> u64
-    requires product_table { ProductTable products.now }
-    requires t_lt_max_wires { (t < max_wires) × (z < parities) × (y < parities) }
-    ensures { (result ≡ column max_wires z t y) × (result < 2 ^ product_bits) }
-{
-    product(products, bar(z as u64, t, y as u64) as Parity)
+// What a search looks at, the same for every z: the product table, the marks, and the members that they mark.
+#[derive(Clone, Copy)]
+pub struct Search<'a> {
+    pub products: &'a Products,
+    pub marks: &'a [Mark; TABLE_BYTES],
+    pub members: &'a [Parity],
+    ghost listed: { ∥ Members marks.now members.now ∥₁ },
+}
+
+// A number z and a wire t, its highest one by `new`.
+#[derive(Clone, Copy, Debug, PartialEq, Eq)]
+pub struct OneZ {
+    pub z: Parity,
+    pub t: usize,
+    ghost in_range: { (t < max_wires) × (z < parities) },
+}
+
+impl OneZ {
+    // z with its highest wire.
+    pub fn new(z: Parity) -> Self
+        requires { (z ≢ 0) × (z < parities) }
+        ensures { (result.z ≡ z) × LeadingBit result.z result.t }
+    {
+        OneZ {
+            z,
+            t: leading(z as u64),
+        }
+    }
 }

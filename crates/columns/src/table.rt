@@ -1,10 +1,13 @@
 // The product table (document 01, "Signature"): a fixed entry for each parity, of one bit for each pair of wires i <= j.
-ghost use Rattle.std.specs.Prelude.{◌<◌};
-ghost use Rattle.circuit.specs.Limits.{parities};
+ghost use Rattle.std.specs.Prelude.{◌≡◌, ◌<◌, ◌^◌};
+ghost use Rattle.circuit.specs.Limits.{max_wires, parities, product_bits};
 ghost use Rattle.columns.specs.Table.{ProductEntry, ProductTable};
+ghost use Rattle.moves.specs.Column.{column};
 
+use crate::OneZ;
 use circuit::limits::{PARITIES, Parity};
 use circuit::parity::index_of;
+use moves::partner::bar;
 
 const PRODUCTS: [u64; PARITIES] = [
     0,
@@ -266,17 +269,30 @@ const PRODUCTS: [u64; PARITIES] = [
 ];
 
 // The table laid out for a caller, who makes it once and lends it from then on.
-pub fn products() -> [u64; PARITIES]
-    ensures { ProductTable result }
-{
-    PRODUCTS
+#[derive(Drop)]
+pub struct Products {
+    entries: [u64; PARITIES],
+    ghost table: { ProductTable entries },
 }
 
-// Bit j (j + 1) / 2 + i of entry p is set when p names both i and j.
-pub fn product(products: &[u64; PARITIES], p: Parity) -> u64
-    requires { ProductTable products.now × (p < parities) }
-    ensures { ProductEntry p result }
-{
-    let i = index_of(p);
-    products[i]
+impl Products {
+    pub fn new() -> Self {
+        Products { entries: PRODUCTS }
+    }
+
+    // Bit j (j + 1) / 2 + i of entry p is set when p names both i and j.
+    pub fn entry(&self, p: Parity) -> u64
+        requires { p < parities }
+        ensures { ProductEntry p result }
+    {
+        self.entries[index_of(p)]
+    }
+
+    // The column of y for z and its wire t: the entry of the one of y and y ^ z that does not name t.
+    pub fn column(&self, one: OneZ, y: Parity) -> u64
+        requires { y < parities }
+        ensures { (result ≡ column max_wires one.z one.t y) × (result < 2 ^ product_bits) }
+    {
+        self.entry(bar(one.z as u64, one.t, y as u64) as Parity)
+    }
 }

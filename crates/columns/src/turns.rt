@@ -1,32 +1,30 @@
 // One z with a wire t: the order of its columns, first one of each pair a, a ^ z, then those of the members without a partner. Pairs come
 // first, since a set takes two members away for each pair that it has one of.
 ghost use Rattle.std.specs.Prelude.{◌*◌, ◌<◌, length};
-ghost use Rattle.circuit.specs.Limits.{max_wires, parities};
-ghost use Rattle.columns.specs.OneZ.{Members, TurnOf};
+ghost use Rattle.columns.specs.OneZ.{TurnOf};
 
-use circuit::cells::cell_at;
-use circuit::limits::{Mark, Parity};
+use crate::{OneZ, Search};
+use circuit::limits::Parity;
 use moves::marks::mark_at;
 
-// The member whose column has turn i, or 0. Of a pair it is the one without wire t.
-pub fn turn(marks: &[Mark], ys: &[Parity], z: Parity, t: usize, i: usize) -> Parity
-    requires members { Members marks.now ys.now }
-    requires z_lt_parities { (z < parities) × (t < max_wires) × (i < 2 * length ys.now) }
-    ensures { TurnOf marks.now ys.now z t i result }
-{
-    if i < ys.len() {
-        let y = cell_at(ys, i);
-        if (y >> t) % 2 == 1 {
-            return 0;
+impl Search<'_> {
+    // The member whose column has turn i, if there is one. Of a pair it is the one without wire t.
+    pub fn turn(&self, one: OneZ, i: usize) -> Option<Parity>
+        requires { i < 2 * length self.now.members.now }
+        ensures { TurnOf self.now.marks.now self.now.members.now one.z one.t i result }
+    {
+        let places = self.members.len();
+        if i < places {
+            let y = self.members[i];
+            if (y >> one.t) % 2 == 1 || mark_at(self.marks, y ^ one.z) == 0 {
+                return None;
+            }
+            return Some(y);
         }
-        if mark_at(marks, y ^ z) == 0 {
-            return 0;
+        let y = self.members[i - places];
+        if mark_at(self.marks, y ^ one.z) == 1 {
+            return None;
         }
-        return y;
+        Some(y)
     }
-    let y = cell_at(ys, i - ys.len());
-    if mark_at(marks, y ^ z) == 1 {
-        return 0;
-    }
-    y
 }

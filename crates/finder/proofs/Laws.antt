@@ -1,5 +1,8 @@
 -- The laws of the entry `find` on one page: which calls it accepts, and what its promise means.
 use mathlib.Core.List.{List}
+use Rattle.std.specs.Prelude.{Err, Ok, Result}
+use Rattle.circuit.specs.Told.{number, told}
+use Rattle.circuit.specs.declared.faults.Refusal.{Refusal}
 use mathlib.Core.Logic.{◌↔◌, ◌≢◌}
 use mathlib.Core.Path.{◌∙◌, ◌≡◌, ap, refl, subst}
 use Prim.Native.Nat.{◌*◌, ◌+◌, ◌/◌, ◌≤◌, suc, zero, ℕ}
@@ -15,9 +18,9 @@ use Rattle.circuit.specs.Replies.{Done}
 use Rattle.moves.proofs.Laws.{limits_suffice, none_legal_bound}
 use Rattle.moves.specs.Log.{SmallestCells}
 use Rattle.moves.specs.Move.{Movable, NoneLegal}
-use Rattle.finder.specs.Entry.{CellsLeft, FindMove, find_fault, found_of, told}
-use Rattle.finder.specs.declared.Finding.{Finding}
-use Rattle.finder.specs.declared.Finding.TheVariants.{Found, Nothing, Refused}
+use Rattle.moves.specs.declared.Sought.{Sought}
+use Rattle.moves.specs.declared.Sought.TheVariants.{Found, Nothing}
+use Rattle.finder.specs.Entry.{CellsLeft, FindMove, find_fault, found_of}
 
 -- the arguments that have no fault
 pub record Findable (n : ℕ) (marks : List ℕ) (cells : ℕ) : Type 0 where
@@ -36,32 +39,35 @@ find_accepts n marks cells = (
 )
 
 module _ (n : ℕ) (marks cells cells' : List ℕ) where
-  abbrev Left : Finding → Type 0
+  abbrev Left : Result Sought Refusal → Type 0
   Left r = CellsLeft (number_of (told r)) (found_of r) n marks cells cells'
 
-  answer_found : (r : Finding) → told r ≡ Done → Left r → Movable max_members n marks → r ≡ Found
-  answer_found Found d a m = refl
-  answer_found Nothing d a m = absurd (a.1 m.z m.Y m.legal)
-  answer_found (Refused number place) d a m = absurd (refused_not_done number place d)
+  answer_found : (r : Result Sought Refusal) → told r ≡ Done → Left r → Movable max_members n marks → r ≡ Ok Found
+  answer_found (Ok Found) d a m = refl
+  answer_found (Ok Nothing) d a m = absurd (a.1 m.z m.Y m.legal)
+  answer_found (Err r) d a m = absurd (refused_not_done (number r.fault) r.place d)
 
-  answer_none : (r : Finding) → told r ≡ Done → Left r → NoneLegal max_members n marks → r ≡ Nothing
-  answer_none Found d a none = absurd (none a.legal.z a.legal.Y a.legal.legal)
-  answer_none Nothing d a none = refl
-  answer_none (Refused number place) d a none = absurd (refused_not_done number place d)
+  answer_none : (r : Result Sought Refusal) → told r ≡ Done → Left r → NoneLegal max_members n marks → r ≡ Ok Nothing
+  answer_none (Ok Found) d a none = absurd (none a.legal.z a.legal.Y a.legal.legal)
+  answer_none (Ok Nothing) d a none = refl
+  answer_none (Err r) d a none = absurd (refused_not_done (number r.fault) r.place d)
 
-  answer_same : (r : Finding) → Left r → r ≢ Found → cells' ≡ cells
-  answer_same Found a ne = absurd (ne refl)
-  answer_same Nothing a ne = a.0
-  answer_same (Refused zero place) a ne = a.0
-  answer_same (Refused (suc number) place) a ne = a
+  answer_same : (r : Result Sought Refusal) → Left r → r ≢ Ok Found → cells' ≡ cells
+  answer_same (Ok Found) a ne = absurd (ne refl)
+  answer_same (Ok Nothing) a ne = a.0
+  answer_same (Err r) a ne = go (number r.fault) a
+    where
+      go : (f : ℕ) → CellsLeft f 0 n marks cells cells' → cells' ≡ cells
+      go zero left = left.0
+      go (suc f) left = left
 
-  module _ (r : Finding) (h : FindMove n marks cells cells' r) where
+  module _ (r : Result Sought Refusal) (h : FindMove n marks cells cells' r) where
     -- the reply has document 01's number and place of the first fault, or none
     pub find_number : (number_of (told r) ≡ find_fault n marks (length cells)) × (place_of (told r) ≡ 0)
     find_number = let c = call_told (find_fault n marks (length cells)) in (ap number_of h.reply ∙ c.0, ap place_of h.reply ∙ c.1)
 
     -- the cells lent stay as they were unless a move was found
-    pub find_keeps : r ≢ Found → cells' ≡ cells
+    pub find_keeps : r ≢ Ok Found → cells' ≡ cells
     find_keeps = answer_same r h.cells_left
 
     module _ (sound : Findable n marks (length cells)) where
@@ -69,21 +75,21 @@ module _ (n : ℕ) (marks cells cells' : List ℕ) where
       done = h.reply ∙ ap call_reply ((find_accepts n marks (length cells)).1 sound)
 
       -- a move is found exactly where there is one, and none exactly where there is none
-      pub found_exactly : (r ≡ Found) ↔ Movable max_members n marks
+      pub found_exactly : (r ≡ Ok Found) ↔ Movable max_members n marks
       found_exactly = (
         λ e. let a = subst Left e h.cells_left in record { z = a.legal.z; Y = a.legal.Y; legal = a.legal.legal },
         answer_found r done h.cells_left,
       )
 
-      pub none_exactly : (r ≡ Nothing) ↔ NoneLegal max_members n marks
+      pub none_exactly : (r ≡ Ok Nothing) ↔ NoneLegal max_members n marks
       none_exactly = (λ e. let a = subst Left e h.cells_left in a.1, answer_none r done h.cells_left)
 
       -- a move that is found has the smallest z of all legal moves, so another finder that keeps this promise finds the same z
-      pub found_smallest : r ≡ Found → SmallestCells max_members n marks cells'
+      pub found_smallest : r ≡ Ok Found → SmallestCells max_members n marks cells'
       found_smallest e = subst Left e h.cells_left
 
       -- where none is found, the odd set has at most (n² + n)/2 + 1 members
-      pub none_few : r ≡ Nothing → member_count marks ≤ (n * n + n) / 2 + 1
+      pub none_few : r ≡ Ok Nothing → member_count marks ≤ (n * n + n) / 2 + 1
       none_few e =
           let l = limits_suffice n sound.few in
           none_legal_bound parities n max_members l.0 marks sound.marked l.1 (none_exactly.0 e)

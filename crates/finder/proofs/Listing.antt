@@ -1,11 +1,11 @@
 -- The members of marks as a list.
 use mathlib.Core.List.{List, [], ◌++◌, ◌∷◌}
 use mathlib.Core.Path.{◌∙◌, ◌≡◌, ap, refl, sym}
-use Prim.Native.Nat.{◌+◌, ◌-◌, ◌<◌, ◌^◌, ◌≤◌, suc, zero, ℕ}
+use Prim.Native.Nat.{◌+◌, ◌<◌, ◌^◌, ◌≤◌, suc, zero, ℕ}
 use native.Mathlib.Nat.{add-zero, le_refl}
 use native.Mathlib.Numerals.{add-one}
 use native.Mathlib.Omega.{arith}
-use lib.ListN.{drop, length, length-set, length-take, set, take}
+use lib.ListN.{length, length-set, length-take, set, take}
 use lib.Seq.{take-set-le, take-suc-set}
 use Rattle.circuit.specs.Limits.{max_wires, parities}
 use Rattle.circuit.specs.Sound.{SoundMarks, weight}
@@ -52,10 +52,9 @@ gather_next {marks} {list} {count} {p} g l b put =
 module _ {n : ℕ} {marks list : List ℕ} {count : ℕ} (fit : n ≤ max_wires) (sound : SoundMarks parities n marks)
     (g : Gathered (2 ^ n) marks list count) where
   -- it is the list of the members
-  pub gathered_members : {ys : List ℕ} → ys ≡ take (count - 0) (drop 0 list) → Members marks ys
+  pub gathered_members : {ys : List ℕ} → ys ≡ take count list → Members marks ys
   gathered_members e =
-      let z : count - 0 ≡ count = omega arith in
-      rw (e, z, g.are) (record {
+      rw (e, g.are) (record {
         sound = sound_wires parities n max_wires marks fit sound;
         few = rw (← g.are) (omega (arith, g.fits, length-take count list));
         member = listed_in (weight marks) sound.bits (2 ^ n);

@@ -1,29 +1,23 @@
 -- The entry `find`: its reply and what it leaves in the cells lent, for sound and faulty arguments alike.
-use Rattle.std.specs.Prelude.{List, ◌≡◌, suc, zero, ℕ, length}
+use Rattle.std.specs.Prelude.{Err, List, Ok, Result, ◌≡◌, suc, zero, ℕ, length}
 use Rattle.circuit.specs.Faults.{call_reply, lent_fault}
 use Rattle.circuit.specs.Limits.{max_members, move_cells}
 use Rattle.circuit.specs.Replies.{number_of}
 use Rattle.circuit.specs.TableFaults.{call_fault, marks_fault}
-use Rattle.circuit.specs.Replies.{Reply}
-use Rattle.circuit.specs.Replies as reply
+use Rattle.circuit.specs.Told.{told}
+use Rattle.circuit.specs.declared.faults.Refusal.{Refusal}
 use Rattle.moves.specs.Log.{SmallestCells}
 use Rattle.moves.specs.Move.{NoneLegal}
-use Rattle.finder.specs.declared.Finding.{Finding}
-use Rattle.finder.specs.declared.Finding.TheVariants.{Found, Nothing, Refused}
+use Rattle.moves.specs.declared.Sought.{Sought}
+use Rattle.moves.specs.declared.Sought.TheVariants.{Found, Nothing}
 
 -- ---- the reply
 
--- each case in document 01's number and place: done whether a move is found or not, else the fault
-abbrev pub told : Finding → Reply
-told Found = reply.Done
-told Nothing = reply.Done
-told (Refused number place) = reply.Refused number place
-
 -- 1 where a move is found, else 0
-abbrev pub found_of : Finding → ℕ
-found_of Found = 1
-found_of Nothing = 0
-found_of (Refused number place) = 0
+abbrev pub found_of : Result Sought Refusal → ℕ
+found_of (Ok Found) = 1
+found_of (Ok Nothing) = 0
+found_of (Err refusal) = 0
 
 -- 1, 8, 6, by the marks and the length of the cells lent for a move
 abbrev pub find_fault : ℕ → List ℕ → ℕ → ℕ
@@ -39,6 +33,6 @@ CellsLeft zero zero n marks cells cells' = (cells' ≡ cells) × NoneLegal max_m
 CellsLeft (suc fault) found n marks cells cells' = cells' ≡ cells
 
 -- `find`, called with these marks and cells, replies r and leaves cells'
-pub record FindMove (n : ℕ) (marks cells cells' : List ℕ) (r : Finding) : Type 0 where
+pub record FindMove (n : ℕ) (marks cells cells' : List ℕ) (r : Result Sought Refusal) : Type 0 where
   pub reply : told r ≡ call_reply (find_fault n marks (length cells))
   pub cells_left : CellsLeft (number_of (told r)) (found_of r) n marks cells cells'

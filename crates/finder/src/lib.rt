@@ -3,69 +3,51 @@
 // Public entry: `find`. Its promise is the record FindMove of specs/Entry, which speaks of every z and Y; proofs/Laws says what it means.
 #![tactic(auto)]
 
-ghost use Rattle.std.specs.Prelude.{◌≡◌, length};
-ghost use Rattle.circuit.specs.Limits.{move_cells};
 ghost use Rattle.circuit.specs.TableFaults.{Marked};
-ghost use Rattle.columns.specs.Table.{ProductTable};
 ghost use Rattle.finder.specs.Entry.{FindMove};
 ghost use Rattle.finder.specs.Search.{Searched};
 
 pub mod members;
 pub mod scan;
 
-use circuit::cells::part;
-use circuit::limits::{MOVE_CELLS, Mark, MoveCell, PARITIES, Parity};
-use columns::table::products;
-use judges::faults::lent_fault;
-use judges::table_faults::marks_call_fault;
-use members::gather;
+use circuit::faults::Refusal;
+use circuit::limits::{MAX_MARK, MOVE_CELLS, Mark, MoveCell, TABLE_BYTES};
+use columns::Search;
+use columns::table::Products;
+use judges::faults::check_lent;
+use judges::table_faults::check_call;
+use kernel::Move;
+use members::MemberList;
 use moves::Sought;
 use scan::scan;
 
-#[derive(Drop)]
-pub enum Finding {
-    // The cells lent hold a legal move, and none has a smaller z.
-    Found,
-    // No move is legal for these marks.
-    Nothing,
-    // Document 01's number and place of the fault.
-    Refused { number: u8, place: usize },
-}
-
 // Finds a legal move with the smallest z for the marks of an odd set and writes its cells. Where it finds none, and on refusal, the cells
 // stay as they were. The product table is made once, so that the scan only reads it.
-pub fn find(n: usize, marks: &[Mark], cells: &mut [MoveCell]) -> Finding
+pub fn find(n: usize, marks: &[Mark], cells: &mut [MoveCell]) -> Result<Sought, Refusal>
     ensures { FindMove n marks.now cells.old cells.new result }
 {
-    let fault = marks_call_fault(n, lent_fault(cells.len(), MOVE_CELLS), marks);
-    if fault != 0 {
-        return Finding::Refused {
-            number: fault,
-            place: 0,
-        };
-    }
-    let table = products();
-    match search_by(&table, n, marks, cells) {
-        Sought::Found => Finding::Found,
-        Sought::Nothing => Finding::Nothing,
+    let marks = check_call(n, check_lent(cells.len(), MOVE_CELLS), MAX_MARK, marks)?;
+    match search_by(&Products::new(), n, marks) {
+        Some(found) => {
+            cells.copy_from_slice(&found);
+            Ok(Sought::Found)
+        }
+        None => Ok(Sought::Nothing),
     }
 }
 
 // The search with the product table lent: the members are gathered once, so that the scan goes through them alone. Internal: the caller has
 // found the marks sound. It is public for the trim, which has proved its marks sound and need not have them judged again before each move,
 // and which makes the table once for all moves.
-pub fn search_by(
-    products: &[u64; PARITIES],
-    n: usize,
-    marks: &[Mark],
-    cells: &mut [MoveCell],
-) -> Sought
-    requires product_table { ProductTable products.now }
-    requires marked { Marked n marks.now }
-    requires cells_len { length cells.old ≡ move_cells }
-    ensures { Searched n marks.now cells.old cells.new result }
+pub fn search_by(products: &Products, n: usize, marks: &[Mark; TABLE_BYTES]) -> Option<Move>
+    requires { Marked n marks.now }
+    ensures { Searched n marks.now result }
 {
-    let mut list = [0 as Parity; PARITIES];
-    let count = gather(1 << n, marks, &mut list);
-    scan(n, products, marks, part(&list, 0, count), cells)
+    let list = MemberList::gather(1 << n, marks);
+    let search = Search {
+        products,
+        marks,
+        members: list.as_slice(),
+    };
+    scan(n, &search)
 }

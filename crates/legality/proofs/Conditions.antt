@@ -1,6 +1,6 @@
 -- The conditions of a legal move put together, and the form of its cells.
 use mathlib.Core.Bool.{Bool}
-use mathlib.Core.List.{List}
+use mathlib.Core.List.{List, ◌++◌}
 use mathlib.Core.Logic.{◌≢◌}
 use mathlib.Core.Path.{◌∙◌, ◌≡◌, ap, refl, sym}
 use Prim.Native.Nat.{◌+◌, ◌-◌, ◌<◌, ◌^◌, ◌≤◌, ℕ}
@@ -8,8 +8,9 @@ use native.Mathlib.Decide.{dec_lt}
 use native.Mathlib.Omega.{arith}
 use lib.Bits.{xor_lt}
 use lib.ListN.{get_or-eq_default, drop, get_or, length, length-drop, replicate, take}
-use lib.Seq.{length-take-le, take_all}
-use Rattle.circuit.specs.Limits.{move_head}
+use lib.Seq.{get_or-drop, length-take-le}
+use Rattle.std.proofs.lemmas.List.{get_or-take}
+use Rattle.circuit.specs.Limits.{max_members, max_wires, move_head, parities, table_bytes}
 use Rattle.circuit.specs.OddSet.{Member}
 use Rattle.circuit.specs.Sound.{weight}
 use Rattle.gf2.proofs.Over.{sum_over-append, sum_over-none}
@@ -25,7 +26,7 @@ use Rattle.moves.specs.Move.{Legal, Separates}
 use Rattle.moves.specs.Sets.{In}
 use Rattle.gf2.proofs.Answers.{decides_as}
 use Rattle.gf2.specs.Tests.{Decides}
-use Rattle.legality.specs.Tested.{AllMembers, Outside, Padded}
+use Rattle.legality.specs.Tested.{AllMembers, IsZero, MemberSet, Outside, SaysLegal, SaysMove}
 
 -- a number beyond the marks is no member
 pub member_inside : (marks : List ℕ) (p : ℕ) → Member marks p → p < length marks
@@ -53,33 +54,95 @@ separates_some s e = s.b_out (rw (← (xor_equal s.a s.b (sym s.z_is ∙ e))) s.
 pub set-few : {most : ℕ} {cells : List ℕ} → MoveForm most cells → length (set_of cells) ≤ most
 set-few {cells = cells} f = rw (length-take-le (get_or cells 1 0) (drop move_head cells) (omega (arith, length-drop move_head cells))) f.few
 
--- for cells of the form, the move decides; z and Y are what code takes from the cells
-pub move_if_legal : {most n z : ℕ} {marks cells Y : List ℕ} {r : Bool} → MoveForm most cells → z ≡ z_of cells → Y ≡ set_of cells
-    → Decides r (Legal most n marks z Y) → Decides r (LegalCells most n marks cells)
-move_if_legal {most} {n} {z} {marks} {cells} f d e =
-    let said = cells_checked most n marks cells in
-    decides_as (λ g. said.1 (f, rw (← d, ← e) g)) (λ g. rw (d, e) (said.0 g).1)
+-- what `is_balanced` asks for
+pub may_balance : {marks Y : List ℕ} {z : ℕ} → length marks ≡ table_bytes → MemberSet marks Y → Separates marks z Y
+    → (z ≢ 0) × (z < parities) × Below parities Y
+may_balance {marks} {Y} long set s =
+    (separates_some s, separates_below max_wires marks Y long set.1 s, members_below max_wires marks Y long set.1)
+
+-- for cells that say a move, the move decides
+module _ {marks cells Y : List ℕ} {z : ℕ} (said : SaysMove cells z Y) where
+  pub says_legal : Legal max_members max_wires marks z Y → SaysLegal marks cells z Y
+  says_legal g =
+      record {
+        legal = (cells_checked max_members max_wires marks cells).1 (said.form, rw (← said.z_is, ← said.set_is) g);
+        z_is = said.z_is;
+        set_is = said.set_is;
+      }
+
+  pub not_legal : (Legal max_members max_wires marks z Y → ⊥) → LegalCells max_members max_wires marks cells → ⊥
+  not_legal n g = n (rw (said.z_is, said.set_is) ((cells_checked max_members max_wires marks cells).0 g).1)
+
+-- ---- the cells cut into pieces: the two of the head, and the others, which are Y and what is left
+
+pub record Cut (most : ℕ) (cells head rest Y left : List ℕ) : Type 0 where
+  pub long : length cells ≡ most + move_head
+  pub head_is : head ≡ take move_head cells
+  pub rest_is : rest ≡ drop move_head cells
+  pub few : get_or head 1 0 ≤ most
+  pub set_is : Y ≡ take (get_or head 1 0) rest
+  pub left_is : left ≡ drop (get_or head 1 0) rest
+
+module _ {most : ℕ} {cells head rest Y left : List ℕ} (cut : Cut most cells head rest Y left) where
+  cut_head : (i : ℕ) → i < move_head → get_or head i 0 ≡ get_or cells i 0
+  cut_head i l = rw cut.head_is (get_or-take move_head cells i 0 l)
+
+  -- the number in Y
+  cut_count : get_or head 1 0 ≡ get_or cells 1 0
+  cut_count = cut_head 1 (omega arith)
+
+  pub cut_z : get_or head 0 0 ≡ z_of cells
+  cut_z = cut_head 0 (omega arith)
+
+  pub cut_set : Y ≡ set_of cells
+  cut_set = cut.set_is ∙ rw (cut.rest_is, cut_count) refl
+
+  cut_at : (i : ℕ) → get_or left i 0 ≡ get_or cells (get_or cells 1 0 + move_head + i) 0
+  cut_at i =
+      let e : move_head + (get_or cells 1 0 + i) ≡ get_or cells 1 0 + move_head + i = omega arith in
+      rw (cut.left_is, cut.rest_is, cut_count, get_or-drop, get_or-drop, e) refl
+
+  cut_left : length left + get_or cells 1 0 ≡ most
+  cut_left =
+      rw (cut.left_is, cut.rest_is, cut_count, length-drop, length-drop)
+      (omega (arith, cut.long, rw cut_count at cut.few))
+
+  pub cut_form : IsZero left → MoveForm most cells
+  cut_form zero =
+      record {
+        long = cut.long;
+        few = rw (← cut_count) cut.few;
+        zeros =
+            λ i from l.
+            let j : ℕ = i - (get_or cells 1 0 + move_head) in
+            let e : get_or cells 1 0 + move_head + j ≡ i = omega arith in
+            rw (← e) (sym (cut_at j) ∙ zero j (omega (arith, cut_left, cut.long)));
+      }
+
+  pub cut_zero : MoveForm most cells → IsZero left
+  cut_zero form i l = cut_at i ∙ form.zeros (get_or cells 1 0 + move_head + i) (omega arith) (omega (arith, cut_left, cut.long))
+
+  pub cut_few : length Y ≤ most
+  cut_few =
+      rw (cut.set_is, length-take-le (get_or head 1 0) rest (rw (cut.rest_is, length-drop) (omega (arith, cut.few, cut.long)))) cut.few
+
+  -- Y and the zeros after it are all after the head
+  pub cut_padded : IsZero left → rest ≡ Y ++ replicate (most - length Y) 0
+  unfolding as_cells
+  cut_padded zero =
+      cut.rest_is ∙ ap (drop move_head) (said_cells most cells (cut_form zero))
+      ∙ ap (λ (y : List ℕ). y ++ replicate (most - length y) 0) (sym cut_set)
 
 -- ---- Y and the zeros after it
 
--- they are the cells after the head
-pub form_padded : (k : ℕ) {most : ℕ} {cells padded : List ℕ} → MoveForm most cells → padded ≡ take k (drop move_head cells)
-    → length (drop move_head cells) ≤ k → Padded (set_of cells) padded
-unfolding as_cells
-form_padded k {most} {cells} f e l =
-    (most - length (set_of cells), e ∙ take_all k (drop move_head cells) l ∙ ap (drop move_head) (said_cells most cells f))
-
 -- no member is 0, so that none is among the zeros
-pub outside_padded : (marks Y padded : List ℕ) (b : ℕ) {r : Bool} → weight marks 0 ≡ 0 → Padded Y padded
+pub outside_padded : (k : ℕ) (marks Y padded : List ℕ) (b : ℕ) {r : Bool} → weight marks 0 ≡ 0 → padded ≡ Y ++ replicate k 0
     → Decides r (Outside marks padded b) → Decides r (Outside marks Y b)
-outside_padded marks Y padded b none p =
+outside_padded k marks Y padded b none p =
     decides_as (λ o. (o.0, λ h. o.1 (longer h))) (λ o. (o.0, λ h. o.1 (shorter o.0 h)))
   where
-    k : ℕ
-    k = p.0
-
     counted : occ b padded ≡ occ b Y + occ b (replicate k 0)
-    counted = ap (occ b) p.1 ∙ sum_over-append (delta b) Y (replicate k 0)
+    counted = ap (occ b) p ∙ sum_over-append (delta b) Y (replicate k 0)
 
     longer : In b Y → In b padded
     longer h = occ-in b padded (omega (arith, counted, in_occ b Y h))

@@ -3,35 +3,49 @@
 // for users.
 #![tactic(auto)]
 
-ghost use Rattle.std.specs.Prelude.{◌≢◌, ◌≡◌, ◌<◌, ◌≤◌, length};
-ghost use Rattle.circuit.specs.Limits.{max_members, max_wires, parities, table_bytes};
+ghost use Rattle.std.specs.Prelude.{◌≢◌, ◌≡◌, ◌-◌, ◌++◌, ◌<◌, ◌≤◌, MatchOption, length, replicate};
+ghost use Rattle.circuit.specs.Limits.{max_members, max_wires, parities};
 ghost use Rattle.circuit.specs.OddSet.{Member};
-ghost use Rattle.circuit.specs.Sound.{SoundMarks};
+ghost use Rattle.circuit.specs.Sound.{weight};
 ghost use Rattle.gf2.specs.Copies.{pairs};
 ghost use Rattle.gf2.specs.Over.{Below};
 ghost use Rattle.gf2.specs.Tests.{Decides};
-ghost use Rattle.moves.specs.Log.{LegalCells, MoveForm, ZeroFrom, set_of};
+ghost use Rattle.moves.specs.Log.{LegalCells, MoveForm, set_of};
 ghost use Rattle.moves.specs.Move.{Balanced, Legal, Separates};
-ghost use Rattle.moves.specs.Sets.{In};
-ghost use Rattle.legality.specs.Tested.{MemberSet, Outside, Padded};
+ghost use Rattle.legality.specs.Tested.{IsZero, MemberSet, Outside, SaysLegal, SaysMove};
 
-use circuit::cells::{cell_at, part};
 use circuit::limits::{
-    MAX_MEMBERS, MAX_WIRES, MOVE_CELLS, MOVE_HEAD, Mark, MoveCell, PARITIES, Parity,
+    MAX_MEMBERS, MAX_WIRES, MOVE_HEAD, Mark, MoveCell, PARITIES, Parity, TABLE_BYTES,
 };
 use circuit::parity::lowest;
 use moves::partner::bar;
 
-// Legality on all wires; for marks of fewer it is the same. Internal: the caller has found no fault in the marks.
-pub fn is_move(marks: &[Mark], cells: &[MoveCell]) -> bool
-    requires { SoundMarks parities max_wires marks.now }
-    ensures { Decides result (LegalCells max_members max_wires marks.now cells.now) }
+// A move as its cells say it: z, the set Y, and Y with the zeros after it, as many numbers in every move.
+#[derive(Clone, Copy, Debug)]
+pub struct Move<'a> {
+    pub z: Parity,
+    pub ys: &'a [Parity],
+    padded: &'a [Parity; MAX_MEMBERS],
+    ghost few: { length ys.now ≤ max_members },
+    ghost zeros: { padded.now ≡ ys.now ++ replicate (max_members - length ys.now) 0 },
+}
+
+// The marks of an odd set. Parity 0 is no member, so that it may stand before the first of Y and after the last.
+#[derive(Clone, Copy)]
+struct OddSet<'a> {
+    marks: &'a [Mark; TABLE_BYTES],
+    ghost none: { weight marks.now 0 ≡ 0 },
+}
+
+// The move that cells say, if it is legal for these marks: on all wires, which for marks of fewer is the same. Internal: the caller has
+// found no fault in the marks, and so none at parity 0.
+pub fn legal_move<'a>(marks: &[Mark; TABLE_BYTES], cells: &'a [MoveCell]) -> Option<Move<'a>>
+    requires { weight marks.now 0 ≡ 0 }
+    ensures { MatchOption result (LegalCells max_members max_wires marks.now cells.now → ⊥)
+        (λ m. SaysLegal marks.now cells.now m.z m.ys.now) }
 {
-    if !has_form(cells) {
-        return false;
-    }
-    let padded = part(cells, MOVE_HEAD, MOVE_CELLS);
-    is_legal(marks, cell_at(cells, 0), set_of(cells), padded)
+    let said = Move::read(cells)?;
+    said.is_legal(marks).then_some(said)
 }
 
 // The set Y, as part of the cells of a move. Internal: the cells have the form of one.
@@ -39,143 +53,95 @@ pub fn set_of(cells: &[MoveCell]) -> &[Parity]
     requires { MoveForm max_members cells.now }
     ensures { result.now ≡ set_of cells.now }
 {
-    let end = cell_at(cells, 1) as usize + MOVE_HEAD;
-    part(cells, MOVE_HEAD, end)
+    let end = usize::from(cells[1]) + MOVE_HEAD;
+    &cells[MOVE_HEAD..end]
 }
 
-// z, the number in Y, Y, zeros.
-fn has_form(cells: &[MoveCell]) -> bool
-    ensures { Decides result (MoveForm max_members cells.now) }
-{
-    if cells.len() != MOVE_CELLS {
-        return false;
-    }
-    let count = cell_at(cells, 1) as usize;
-    if count > MAX_MEMBERS {
-        return false;
-    }
-    zero_from(cells, count + MOVE_HEAD)
-}
-
-// Whether all cells from a place on are 0. None is tested by itself, so that many are looked at together.
-fn zero_from(cells: &[MoveCell], from: usize) -> bool
-    ensures { Decides result (ZeroFrom from cells.now) }
-{
-    let mut any: MoveCell = 0;
-    let mut i = from;
-    while i < cells.len() {
-        any |= cell_at(cells, i);
-        i += 1;
-    }
-    any == 0
-}
-
-// Whether the move of z and Y is legal. `padded` is Y and the zeros after it, of the same length for every move.
-fn is_legal(marks: &[Mark], z: Parity, ys: &[Parity], padded: &[Parity]) -> bool
-    requires { SoundMarks parities max_wires marks.now × (length ys.now ≤ max_members) × Padded ys.now padded.now }
-    ensures { Decides result (Legal max_members max_wires marks.now z ys.now) }
-{
-    if !is_set(marks, ys) {
-        return false;
-    }
-    if !separates(marks, z, ys, padded) {
-        return false;
-    }
-    is_balanced(z, ys)
-}
-
-// Each is above the one before, so that nothing stands twice, and is a member. 0 is no member, so that it may stand before the first.
-fn is_set(marks: &[Mark], ys: &[Parity]) -> bool
-    requires { SoundMarks parities max_wires marks.now }
-    ensures { Decides result (MemberSet marks.now ys.now) }
-{
-    let mut last: Parity = 0;
-    let mut i: usize = 0;
-    while i < ys.len() {
-        let y = cell_at(ys, i);
-        if y <= last {
-            return false;
+impl<'a> Move<'a> {
+    // The move that cells say: z, the number in Y, Y, and zeros to the last cell. None where they have another form.
+    fn read(cells: &'a [MoveCell]) -> Option<Move<'a>>
+        ensures { MatchOption result (MoveForm max_members cells.now → ⊥) (λ m. SaysMove cells.now m.z m.ys.now) }
+    {
+        let (&[z, count], padded) = cells.split_first_chunk::<MOVE_HEAD>()?;
+        let padded = padded.as_array::<MAX_MEMBERS>()?;
+        let (ys, zeros) = padded.split_at_checked(usize::from(count))?;
+        if !is_zero(zeros) {
+            return None;
         }
-        if !is_member(marks, y) {
-            return false;
+        Some(Move { z, ys, padded })
+    }
+
+    fn is_legal(&self, marks: &[Mark; TABLE_BYTES]) -> bool
+        requires { weight marks.now 0 ≡ 0 }
+        ensures { Decides result (Legal max_members max_wires marks.now self.now.z self.now.ys.now) }
+    {
+        let odd = OddSet { marks };
+        self.is_set(&odd) && self.separates(&odd) && self.is_balanced()
+    }
+
+    // Each of Y is above the one before, so that nothing stands twice, and is a member.
+    fn is_set(&self, odd: &OddSet) -> bool
+        ensures { Decides result (MemberSet odd.now.marks.now self.now.ys.now) }
+    {
+        let mut last: Parity = 0;
+        for &y in self.ys {
+            if y <= last || !odd.has(y) {
+                return false;
+            }
+            last = y;
         }
-        last = y;
-        i += 1;
+        true
     }
-    true
-}
 
-// A number from outside may be no parity, and is then no member.
-fn is_member(marks: &[Mark], p: Parity) -> bool
-    requires { length marks.now ≡ table_bytes }
-    ensures { Decides result (Member marks.now p) }
-{
-    let i = p as usize;
-    if i >= PARITIES {
-        return false;
+    // z is a ^ b for some a in Y and some member b not in Y.
+    fn separates(&self, odd: &OddSet) -> bool
+        ensures { Decides result (Separates odd.now.marks.now self.now.z self.now.ys.now) }
+    {
+        self.ys.iter().any(|&y| self.leaves(odd, y ^ self.z))
     }
-    marks[i] == 1
-}
 
-// z is a ^ b for some a in Y and some member b not in Y.
-fn separates(marks: &[Mark], z: Parity, ys: &[Parity], padded: &[Parity]) -> bool
-    requires { SoundMarks parities max_wires marks.now × Padded ys.now padded.now }
-    ensures { Decides result (Separates marks.now z ys.now) }
-{
-    let mut i: usize = 0;
-    while i < ys.len() {
-        if is_outside(marks, padded, cell_at(ys, i) ^ z) {
-            return true;
+    // b is a member that is not in Y. No number of Y, and no zero after it, is tested by itself: `contains` looks at many together.
+    fn leaves(&self, odd: &OddSet, b: Parity) -> bool
+        ensures { Decides result (Outside odd.now.marks.now self.now.ys.now b) }
+    {
+        let padded = self.padded;
+        odd.has(b) && !padded.contains(&b)
+    }
+
+    // The xor of Y is 0, and so is that of the pairs of wires of its bars, for the lowest wire of z: these stand for every triple of wires.
+    // Internal: z and Y are parities.
+    fn is_balanced(&self) -> bool
+        requires { (self.now.z ≢ 0) × (self.now.z < parities) × Below parities self.now.ys.now }
+        ensures { Decides result (Balanced max_wires self.now.z self.now.ys.now) }
+    {
+        let z = u64::from(self.z);
+        let t = lowest(self.z);
+        let mut total: Parity = 0;
+        let mut pairs: u64 = 0;
+        for &y in self.ys {
+            total ^= y;
+            pairs ^= pairs_of(bar(z, t, u64::from(y)));
         }
-        i += 1;
+        total == 0 && pairs == 0
     }
-    false
 }
 
-// A member that is not among these numbers.
-fn is_outside(marks: &[Mark], numbers: &[Parity], b: Parity) -> bool
-    requires { length marks.now ≡ table_bytes }
-    ensures { Decides result (Outside marks.now numbers.now b) }
-{
-    if !is_member(marks, b) {
-        return false;
+impl OddSet<'_> {
+    // A number from outside may be no parity, and is then no member.
+    fn has(&self, p: Parity) -> bool
+        ensures { Decides result (Member self.now.marks.now p) }
+    {
+        let i = usize::from(p);
+        let marks = self.marks;
+        i < PARITIES && marks[i] == 1
     }
-    !contains(numbers, b)
 }
 
-// Whether b is among these numbers. Here too none is tested by itself.
-fn contains(numbers: &[Parity], b: Parity) -> bool
-    ensures { Decides result (In b numbers.now) }
+// Whether all cells are 0. None is tested by itself, so that many are looked at together.
+fn is_zero(cells: &[MoveCell]) -> bool
+    ensures { Decides result (IsZero cells.now) }
 {
-    let mut found: bool = false;
-    let mut i: usize = 0;
-    while i < numbers.len() {
-        found = found | (cell_at(numbers, i) == b);
-        i += 1;
-    }
-    found
-}
-
-// The xor of Y is 0, and so is that of the pairs of wires of its bars, for the lowest wire of z: these stand for every triple of wires.
-// Internal: z and Y are parities.
-fn is_balanced(z: Parity, ys: &[Parity]) -> bool
-    requires { (z ≢ 0) × (z < parities) × Below parities ys.now }
-    ensures { Decides result (Balanced max_wires z ys.now) }
-{
-    let t = lowest(z);
-    let mut total: Parity = 0;
-    let mut pairs: u64 = 0;
-    let mut i: usize = 0;
-    while i < ys.len() {
-        let y = cell_at(ys, i);
-        total ^= y;
-        pairs ^= pairs_of(bar(z as u64, t, y as u64));
-        i += 1;
-    }
-    if total != 0 {
-        return false;
-    }
-    pairs == 0
+    cells.iter().fold(0, |any, &cell| any | cell) == 0
 }
 
 // A number times this is copies of it, one place further apart than it has bits.

@@ -12,26 +12,13 @@ use Rattle.circuit.specs.Limits.{log_cells, max_members, max_wires, move_cells, 
 use Rattle.circuit.specs.OddSet.{member_count}
 use Rattle.circuit.specs.Sound.{SoundMarks}
 use Rattle.circuit.specs.TableFaults.{Marked}
-use Rattle.finder.specs.Search.{Searched}
 use Rattle.gf2.proofs.Sum.{sum-const, sum-front, sum-le}
 use Rattle.moves.proofs.Laws.{limits_suffice, move_shrinks}
 use Rattle.moves.proofs.Logs.{cells_length, cells_say, logged_length, logged_more}
 use Rattle.moves.proofs.Replaying.{replays_more, replays_none, replays_shrinks, replays_sound, smallest_more, smallest_none}
 use Rattle.moves.specs.CarryOut.{carry_out}
 use Rattle.moves.specs.Log.{LegalCells, SmallestCells, logged, set_of, z_of}
-use Rattle.moves.specs.Move.{NoneLegal}
-use Rattle.moves.specs.declared.Sought.{Sought}
-use Rattle.moves.specs.declared.Sought.TheVariants.{Found, Nothing}
 use Rattle.moving.specs.Steps.{Made}
-
--- what the search says, where it found a move and where it found none
-pub searched_found : (n : ℕ) (marks was cells : List ℕ) {found : Sought} → found ≡ Found → Searched n marks was cells found
-    → SmallestCells max_members n marks cells
-searched_found n marks was cells e s = rw e at s
-
-pub searched_none : (n : ℕ) (marks was cells : List ℕ) {found : Sought} → found ≡ Nothing → Searched n marks was cells found
-    → NoneLegal max_members n marks
-searched_none n marks was cells e s = (rw e at s).1
 
 pub made_none : (n : ℕ) (m log : List ℕ) (k : ℕ) → k ≡ 0 → Made n m log k m log
 unfolding logged

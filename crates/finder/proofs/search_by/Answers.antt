@@ -1,0 +1,16 @@
+-- The members of the marks are gathered, and what the scan says of all wires holds of n.
+use native.Mathlib.Omega.{arith}
+use Rattle.std.proofs.lemmas.Grind.{merely}
+use Rattle.circuit.proofs.Steps.{shifted}
+use Rattle.finder.proofs.Listing.{gathered_members}
+use Rattle.finder.proofs.OnWires.{scanned_searched}
+use Rattle.finder.proofs.search_by.Goals as goal
+
+pub invariant_of-search : goal.invariant_of-search
+invariant_of-search c =
+    let m = c.requires in
+    let gathered = rw (shifted 64 c.args.n (omega arith)) at c.gather-list.ensures in
+    record { listed = merely (gathered_members m.few m.sound gathered c.as_slice.ensures) }
+
+pub returns : goal.returns
+returns c = scanned_searched c.requires.few c.requires.sound _ c.scan.ensures
