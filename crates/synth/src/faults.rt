@@ -3,9 +3,8 @@ ghost use Rattle.std.specs.Prelude.{◌≡◌, ◌-◌, ◌^◌, ◌≤◌};
 ghost use Rattle.circuit.specs.Limits.{max_wires, row_cells};
 ghost use Rattle.written.specs.Faults.{Shaped, row_most, beyond_fault, cancel_fault, rows_fault, write_fault};
 
-use crate::masks::{copied, pivot_of, row_step};
-use circuit::cells::cell_at;
-use circuit::limits::{MAX_WIRES, Parity, ROW_CELLS, WRITE_BYTES, Weight};
+use crate::masks::{pivot_of, row_step};
+use circuit::limits::{MAX_WIRES, Parity, WRITE_BYTES, Weight};
 use judges::faults::{ROW_RULE, short_fault};
 use judges::table_faults::weights_call_fault;
 
@@ -26,27 +25,25 @@ fn rows_fault(n: usize, rows: &[Parity]) -> u8
     requires { n ≤ max_wires }
     ensures { result ≡ rows_fault row_cells n rows.now }
 {
-    if rows.len() != ROW_CELLS {
+    let Some(rows) = rows.as_array::<MAX_WIRES>() else {
         return ROW_RULE;
-    }
+    };
     let fault = beyond_fault(n, rows);
     if fault != 0 {
         return fault;
     }
-    cancel_fault(n, copied(rows))
+    cancel_fault(n, rows)
 }
 
 // A bit or row beyond n.
-fn beyond_fault(n: usize, rows: &[Parity]) -> u8
+fn beyond_fault(n: usize, rows: &[Parity; MAX_WIRES]) -> u8
     requires { n ≤ max_wires }
     ensures { result ≡ beyond_fault n 0 rows.now }
 {
-    let mut i: usize = 0;
-    while i < rows.len() {
-        if cell_at(rows, i) > row_most(n, i) {
+    for (i, &row) in rows.iter().enumerate() {
+        if row > row_most(n, i) {
             return ROW_RULE;
         }
-        i += 1;
     }
     0
 }
@@ -63,16 +60,15 @@ fn row_most(n: usize, i: usize) -> Parity
 }
 
 // Dependent rows: some mask, on the way to 2^i, has no pivot.
-fn cancel_fault(n: usize, rows: [Parity; MAX_WIRES]) -> u8
-    requires { (n ≤ max_wires) × Shaped max_wires n rows }
-    ensures { result ≡ cancel_fault (2 ^ n - 1) rows }
+fn cancel_fault(n: usize, rows: &[Parity; MAX_WIRES]) -> u8
+    requires { (n ≤ max_wires) × Shaped max_wires n rows.now }
+    ensures { result ≡ cancel_fault (2 ^ n - 1) rows.now }
 {
-    let mut masks = rows;
+    let mut masks = *rows;
     for r in 0..n {
-        let b = pivot_of(n, r, cell_at(&masks, r));
-        if b >= n {
+        let Some(b) = pivot_of(n, r, masks[r]) else {
             return ROW_RULE;
-        }
+        };
         row_step(&mut masks, r, b);
     }
     0

@@ -14,11 +14,11 @@ pub mod rows;
 pub mod spelling;
 pub mod storing;
 
-use circuit::limits::{Parity, Weight};
+use circuit::limits::{MAX_WIRES, Parity, TABLE_BYTES, Weight};
 use faults::write_fault;
-use masks::copied;
 use phases::write_phases;
 use rows::write_rows;
+use storing::Writer;
 
 // The reply of `write`: the number of gates written, or document 01's number and place of the fault.
 #[derive(Drop)]
@@ -39,16 +39,28 @@ pub fn write(n: usize, weights: &[Weight], rows: &[Parity], gates: &mut [u8]) ->
         };
     }
     Written::Done {
-        count: write_sound(n, weights, rows, gates),
+        count: write_sound(
+            n,
+            weights.as_array().unwrap(),
+            rows.as_array().unwrap(),
+            gates,
+        ),
     }
 }
 
 // The gates, and their number. Internal: the caller has found no fault. It is public for the trim, which has proved its weights and rows
 // sound.
-pub fn write_sound(n: usize, weights: &[Weight], rows: &[Parity], gates: &mut [u8]) -> usize
+pub fn write_sound(
+    n: usize,
+    weights: &[Weight; TABLE_BYTES],
+    rows: &[Parity; MAX_WIRES],
+    gates: &mut [u8],
+) -> usize
     requires { Writable n weights.now rows.now (length gates.old) }
     ensures { WroteBytes n weights.now rows.now gates.old gates.new result }
 {
-    let phases = write_phases(gates, n, weights);
-    write_rows(gates, phases, n, copied(rows))
+    let mut to = Writer::new(gates);
+    write_phases(&mut to, n, weights);
+    write_rows(&mut to, n, rows);
+    to.count
 }

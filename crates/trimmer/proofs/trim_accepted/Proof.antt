@@ -1,7 +1,7 @@
 -- Each step leaves what the next one needs, and `finish` puts them together.
-use mathlib.Core.Path.{refl, sym}
+use mathlib.Core.Path.{refl}
 use borrow.Author.Rules.{rules}
-use Rattle.trimmer.proofs.Finish.{ReadC, finish, marked_first, marked_last, sound_rows, sound_weights, writable}
+use Rattle.trimmer.proofs.Finish.{ReadC, finish, marked_first, marked_last, sound_weights, writable}
 use Rattle.trimmer.proofs.trim_accepted.Statement.{statement}
 use Rattle.trimmer.proofs.trim_accepted.Tie as tie
 
@@ -42,9 +42,6 @@ put-new-weights-requires c κs =
     let last = marked_last
     (record { marked = record { read = is_read t; odd = o.put_odd_set.ensures }; all = m.make_moves-moves.ensures }) in
     (last.few, sound_weights (is_read t), last.sound, refl)
-
-slice-aggregate-write-sound-2 : tie.Need-slice_bounds-write_sound-end-2
-slice-aggregate-write-sound-2 c = sym (sound_rows (is_read (search))).long
 
 write-sound-requires : tie.Need-write_sound-count-requires
 write-sound-requires c κs =
@@ -89,8 +86,6 @@ trim_accepted_spec =
     (λ c. search rules)
     (λ c. search rules)
     put-new-weights-requires
-    (λ c. search rules)
-    slice-aggregate-write-sound-2
     write-sound-requires
     (λ c. search rules)
     (λ c. search rules)

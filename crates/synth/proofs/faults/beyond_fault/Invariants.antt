@@ -1,12 +1,8 @@
 -- No row before row i is beyond n: the fault of the rest is that of all.
 use mathlib.Core.Path.{◌≡◌}
-use Prim.Native.Nat.{◌-◌, ◌≤◌}
-use lib.ListN.{drop, length}
+use lib.ListN.{drop}
 use Rattle.written.specs.Faults.{beyond_fault}
 use Rattle.synth.proofs.faults.beyond_fault.Given as goal
 
 abbrev pub invariant-loop-i : goal.invariant-loop-i
-invariant-loop-i l = (l.i ≤ length l.rows) × (beyond_fault l.n l.i (drop l.i l.rows) ≡ beyond_fault l.n 0 l.rows)
-
-abbrev pub decreases-loop-i : goal.decreases-loop-i
-decreases-loop-i l = length l.rows - l.i
+invariant-loop-i l = beyond_fault l.n l.i (drop l.i l.rows) ≡ beyond_fault l.n 0 l.rows

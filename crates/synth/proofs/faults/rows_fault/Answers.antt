@@ -2,25 +2,28 @@
 use mathlib.Core.Path.{◌∙◌, ◌≡◌, ap, sym}
 use Prim.Native.Nat.{◌-◌, ◌^◌}
 use native.Mathlib.Omega.{arith}
+use borrow.Author.Rules.{rules}
 use Rattle.circuit.specs.Limits.{row_cells}
 use Rattle.written.proofs.RowRule.{other_length, rows_beyond, rows_cancel, shaped}
-use Rattle.written.specs.Faults.{Shaped, cancel_fault}
+use Rattle.written.specs.Faults.{beyond_fault, cancel_fault}
 use Rattle.synth.proofs.faults.rows_fault.Goals as goal
 
-pub returns-then-rows-ne-ROW_CELLS : goal.returns-then-rows-ne-ROW_CELLS
-returns-then-rows-ne-ROW_CELLS c = other_length row_cells _ _ (omega arith)
+pub returns-in_default : goal.returns-in_default
+returns-in_default c = other_length row_cells _ _ (search rules)
 
 pub returns-then-fault-ne0 : goal.returns-then-fault-ne0
 returns-then-fault-ne0 c =
-    rows_beyond row_cells _ _ (omega arith) _ c.beyond_fault-fault.ensures (omega arith)
+    let long = c.in-Some.ensures.cases in
+    rows_beyond row_cells c.args.n c.args.rows.now long.long _
+    (c.beyond_fault-fault.ensures ∙ ap (beyond_fault c.args.n 0) long.same) (omega arith)
 
 pub cancel_fault-requires : goal.cancel_fault-requires
 cancel_fault-requires c =
     let z : c.beyond_fault-fault.result ≡ 0 = omega arith in
-    let r : Shaped row_cells c.args.n c.args.rows.now = shaped row_cells _ _ (omega arith) (sym c.beyond_fault-fault.ensures ∙ z) in
-    (c.requires, rw c.copied.ensures r)
+    (c.requires, shaped row_cells _ _ (search rules) (sym c.beyond_fault-fault.ensures ∙ z))
 
 pub returns : goal.returns
 returns c =
-    c.cancel_fault.ensures ∙ ap (cancel_fault (2 ^ c.args.n - 1)) c.copied.ensures
-    ∙ rows_cancel row_cells c.args.n _ (omega arith) _ c.beyond_fault-fault.ensures (omega arith)
+    let long = c.in-Some.ensures.cases in
+    c.cancel_fault.ensures ∙ ap (cancel_fault (2 ^ c.args.n - 1)) long.same
+    ∙ rows_cancel row_cells c.args.n _ long.long _ (c.beyond_fault-fault.ensures ∙ ap (beyond_fault c.args.n 0) long.same) (omega arith)
