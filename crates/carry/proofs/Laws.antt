@@ -11,7 +11,7 @@ use Rattle.circuit.specs.Faults.{bad_move, refuse}
 use Rattle.circuit.specs.Limits.{max_members, move_cells}
 use Rattle.circuit.specs.Replies.{after, number_of}
 use Rattle.circuit.specs.TableFaults.{Marked}
-use Rattle.circuit.specs.declared.Reply.TheVariants as reply
+use Rattle.circuit.specs.Replies as reply
 use Rattle.moves.proofs.Deciding.{move_is, move_yes}
 use Rattle.moves.proofs.Laws.{move_differs_few}
 use Rattle.moves.proofs.Logs.{cells_checked, cells_say, move_short, move_whole}

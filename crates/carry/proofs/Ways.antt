@@ -13,8 +13,8 @@ use Rattle.circuit.specs.Faults.{bad_move, lent_fault, refuse}
 use Rattle.circuit.specs.Limits.{max_members, max_wires, parities, table_bytes}
 use Rattle.circuit.specs.Sound.{SoundMarks}
 use Rattle.circuit.specs.TableFaults.{Marked}
-use Rattle.circuit.specs.declared.Reply.{Reply}
-use Rattle.circuit.specs.declared.Reply.TheVariants as reply
+use Rattle.circuit.specs.Replies.{Reply}
+use Rattle.circuit.specs.Replies as reply
 use Rattle.moves.proofs.Deciding.{move_no, move_yes}
 use Rattle.moves.proofs.Differing.{differing-none}
 use Rattle.moves.proofs.Laws.{move_keeps_signature, move_leaves_sound, move_shrinks}

@@ -5,8 +5,8 @@ use Rattle.circuit.specs.Limits.{max_members, parities, table_bytes}
 use Rattle.circuit.specs.OddSet.{member_count}
 use Rattle.circuit.specs.Replies.{after, number_of, place_of}
 use Rattle.circuit.specs.Sound.{SoundMarks}
-use Rattle.circuit.specs.declared.Reply.{Reply}
-use Rattle.circuit.specs.declared.Reply.TheVariants as reply
+use Rattle.circuit.specs.Replies.{Reply}
+use Rattle.circuit.specs.Replies as reply
 use Rattle.moves.specs.CarryOut.{carry_out, differing}
 use Rattle.moves.specs.Decide.{is_move}
 use Rattle.moves.specs.Log.{LegalCells, set_of, z_of}
