@@ -14,8 +14,10 @@ use Rattle.circuit.proofs.Steps.{shifted}
 use Rattle.std.proofs.lemmas.List.{map-append, take_more}
 use lib.Pow.{pow_mono}
 use Rattle.circuit.specs.Gate.{CNOT, Gate, gate}
+use Rattle.circuit.specs.Kinds.{number_of}
 use Rattle.circuit.specs.Limits.{max_wires, parities}
 use Rattle.circuit.specs.Sound.{weight}
+use Rattle.circuit.specs.declared.gates.GateKind.{GateKind}
 use Rattle.gf2.proofs.Steady.{steady}
 use Rattle.gf2.specs.Bit.{NextBit, bit}
 use Rattle.gf2.specs.Parity.{lowest}
@@ -80,30 +82,30 @@ module _ {n q t : ℕ} {w w' : Writer} {i : ℕ} (h : CnotsTo n q t w w' i) wher
 pub kinds_first : (w : Writer) (t : ℕ) → Stored w w (on_wire t [])
 kinds_first w t = stored_none w
 
-grown : (t i : ℕ) (kinds : List ℕ) → i < length kinds
-    → on_wire t (take (i + 1) kinds) ≡ on_wire t (take i kinds) ++ (gate (get_or kinds i 0) t 0 ∷ [])
-grown t i kinds l = ap (on_wire t) (take_more kinds i 0 l) ∙ map-append (λ kind. gate kind t 0) (take i kinds) (get_or kinds i 0 ∷ [])
-
--- one kind more is stored: there is room for it, and what is stored then
-module _ (t : ℕ) (kinds : List ℕ) {w w' : Writer} {i : ℕ} (s : Stored w w' (on_wire t (take i kinds))) where
-  pub kind_room : i < length kinds → Room w (on_wire t kinds) → Room w' (gate (get_or kinds i 0) t 0 ∷ [])
-  kind_room l r = room_then s (gate (get_or kinds i 0) t 0 ∷ []) (rw (grown t i kinds l) at fits)
-    where
-      fits : Room w (on_wire t (take (i + 1) kinds))
-      fits =
-          omega (
-            arith,
-            length-map (take (i + 1) kinds) (λ kind. gate kind t 0),
-            length-map kinds (λ kind. gate kind t 0),
-            length-take (i + 1) kinds,
-          )
-
-  pub kind_turn : i < length kinds → {w'' : Writer} → Stored w' w'' (gate (get_or kinds i 0) t 0 ∷ [])
-      → Stored w w'' (on_wire t (take (i + 1) kinds))
-  kind_turn l u = rw (grown t i kinds l) (stored_then s u)
-
+-- one kind more is stored: there is room for it, and what is stored then. d stands for the kind where there are no more
+module _ (t : ℕ) (kinds : List GateKind) (d : GateKind) {w w' : Writer} {i : ℕ} (s : Stored w w' (on_wire t (take i kinds))) where
   pub kinds_last : length kinds ≤ i → Stored w w' (on_wire t kinds)
   kinds_last l = rw (← take_all i kinds l) s
+
+  module _ (l : i < length kinds) where
+    grown : on_wire t (take (i + 1) kinds) ≡ on_wire t (take i kinds) ++ (gate (number_of (get_or kinds i d)) t 0 ∷ [])
+    grown = ap (on_wire t) (take_more kinds i d l) ∙ map-append (λ kind. gate (number_of kind) t 0) (take i kinds) (get_or kinds i d ∷ [])
+
+    pub kind_room : Room w (on_wire t kinds) → Room w' (gate (number_of (get_or kinds i d)) t 0 ∷ [])
+    kind_room r = room_then s (gate (number_of (get_or kinds i d)) t 0 ∷ []) (rw grown at fits)
+      where
+        fits : Room w (on_wire t (take (i + 1) kinds))
+        fits =
+            omega (
+              arith,
+              length-map (take (i + 1) kinds) (λ kind. gate (number_of kind) t 0),
+              length-map kinds (λ kind. gate (number_of kind) t 0),
+              length-take (i + 1) kinds,
+            )
+
+    pub kind_turn : {w'' : Writer} → Stored w' w'' (gate (number_of (get_or kinds i d)) t 0 ∷ [])
+        → Stored w w'' (on_wire t (take (i + 1) kinds))
+    kind_turn u = rw grown (stored_then s u)
 
 -- ---- one parity
 

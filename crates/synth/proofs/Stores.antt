@@ -19,15 +19,16 @@ unfolding bytes_of
 stored_none w = record { same = refl; counted = sym (add-zero w.count); bytes = refl }
 
 -- three bytes stored one after the other
-pub stored_one : (w w' : Writer) (kind a b : ℕ) → w'.gates.ghost_name ≡ w.gates.ghost_name → w'.count ≡ w.count + 1
-    → w'.gates.now ≡ set (set (set w.gates.now (gate_bytes * w.count) kind) (gate_bytes * w.count + 1) a) (gate_bytes * w.count + 2) b
+pub stored_one : (w w' : Writer) (kind a b : ℕ) {byte : ℕ} → byte ≡ kind → w'.gates.ghost_name ≡ w.gates.ghost_name
+    → w'.count ≡ w.count + 1
+    → w'.gates.now ≡ set (set (set w.gates.now (gate_bytes * w.count) byte) (gate_bytes * w.count + 1) a) (gate_bytes * w.count + 2) b
     → Stored w w' (gate kind a b ∷ [])
 unfolding bytes_of
-stored_one w w' kind a b same counted put =
+stored_one w w' kind a b {byte} e same counted put =
     record {
       same = same;
       counted = counted;
-      bytes = put ∙ three_stored w.gates.now (gate_bytes * w.count) kind a b kind a b refl refl refl;
+      bytes = put ∙ three_stored w.gates.now (gate_bytes * w.count) byte a b kind a b e refl refl;
     }
 
 module _ {w w' : Writer} {xs : List Gate} (a : Stored w w' xs) where

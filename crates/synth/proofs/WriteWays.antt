@@ -1,16 +1,22 @@
 -- One law for each way out of the entry `write`: the tests that led there give the reply, and the gates are as it says.
 use mathlib.Core.List.{◌++◌, List}
-use mathlib.Core.Logic.{◌≢◌}
 use mathlib.Core.Path.{ap, refl, subst, sym, ◌∙◌, ◌≡◌}
-use Prim.Native.Nat.{◌*◌, ◌^◌, suc, zero, ℕ}
+use Prim.Native.Nat.{◌*◌, ◌^◌, ℕ}
 use native.Mathlib.Omega.{arith}
 use lib.ListN.{length, take}
 use Rattle.circuit.proofs.Bytes.{gates_of_bytes, length-bytes}
+use Rattle.std.specs.Prelude.{Err, Ok, Result}
+use Rattle.circuit.proofs.Judging.{refused_not_done}
+use Rattle.circuit.proofs.Results.{numbered, refused_keeps}
 use Rattle.circuit.proofs.TableRule.{call_done, call_refusal}
 use Rattle.circuit.specs.Faults.{Accepted}
 use Rattle.circuit.specs.Gate.{Gate, bytes_of, gates_of}
 use Rattle.circuit.specs.Lent.{KeptFrom, front_gates, reading_lent}
 use Rattle.circuit.specs.Limits.{gate_bytes, max_wires}
+use Rattle.circuit.specs.Replies.{Refused}
+use Rattle.circuit.specs.Told.{number, told}
+use Rattle.circuit.specs.declared.faults.Fault.{Fault}
+use Rattle.circuit.specs.declared.faults.Refusal.{Refusal}
 use Rattle.written.proofs.Checks.{fault_ready, longest}
 use Rattle.written.proofs.WriteBack.{list_written}
 use Rattle.written.specs.Chosen.{chosen_is}
@@ -20,34 +26,28 @@ use Rattle.written.specs.Wrote.{Wrote}
 use Rattle.synth.proofs.Stores.{room_first, room_then, stored_front, stored_kept, stored_then}
 use Rattle.synth.specs.Entry.{GatesLeft, WriteList, WroteBytes}
 use Rattle.synth.specs.Storing.{PhasesReady, Room, RowsReady, Stored}
-use Rattle.synth.specs.declared.Written.TheVariants.{Done, Refused}
 use Rattle.synth.specs.declared.storing.Writer.{Writer}
 
 -- ---- the ways out
 
-module _ (n : ℕ) (w rows g : List ℕ) (f : ℕ) (judged : f ≡ write_fault n w rows (length g)) where
-  pub write_refused : f ≢ 0 → WriteList n w rows g g (Refused f 0)
-  write_refused h = record { reply = call_refusal f (write_fault n w rows (length g)) judged h; gates_left = left f h }
-    where
-      left : (f : ℕ) → f ≢ 0 → GatesLeft f 0 n w rows g g
-      left zero h = absurd (h refl)
-      left (suc f) h = refl
+module _ (n : ℕ) (w rows g : List ℕ) where
+  pub write_refused : (r : Result ℕ Refusal) (fault : Fault) → told r ≡ Refused (number fault) 0
+      → number fault ≡ write_fault n w rows (length g) → WriteList n w rows g g r
+  write_refused (Ok count) fault said judged = absurd (refused_not_done (number fault) 0 (sym said))
+  write_refused (Err r) fault said judged =
+      record {
+        reply = said ∙ call_refusal (number fault) (write_fault n w rows (length g)) judged (numbered fault);
+        gates_left = refused_keeps (λ (f : ℕ). GatesLeft f 0 n w rows g g) (λ f. refl) r;
+      }
 
-  module _ (clear : f ≡ 0) where
-    pub may_write : Writable n w rows (length g)
-    may_write = fault_ready n w rows (length g) (sym judged ∙ clear)
+  -- nothing is at fault, and these are the same weights and rows, as arrays
+  module _ (clear : 0 ≡ write_fault n w rows (length g)) {weights' rows' : List ℕ} (same : (weights' ≡ w) × (rows' ≡ rows)) where
+    pub may_write : Writable n weights' rows' (length g)
+    may_write = rw (same.0, same.1) (fault_ready n w rows (length g) (sym clear))
 
-    -- the same weights and rows, as arrays
-    module _ {weights' rows' : List ℕ} (same-weights : weights' ≡ w) (same-rows : rows' ≡ rows) where
-      pub arrays_ready : Writable n weights' rows' (length g)
-      arrays_ready = rw (same-weights, same-rows) may_write
-
-      pub write_done : {g' : List ℕ} {count : ℕ} → WroteBytes n weights' rows' g g' count → WriteList n w rows g g' (Done count)
-      write_done {g'} {count} d =
-          record {
-            reply = call_done f (write_fault n w rows (length g)) judged clear;
-            gates_left = rw (same-weights, same-rows) at d;
-          }
+    pub write_done : {g' : List ℕ} {count : ℕ} → WroteBytes n weights' rows' g g' count → WriteList n w rows g g' (Ok count)
+    write_done {g'} {count} d =
+        record { reply = call_done 0 (write_fault n w rows (length g)) clear refl; gates_left = rw (same.0, same.1) at d }
 
 -- ---- the gates stored
 

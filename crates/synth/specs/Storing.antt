@@ -2,8 +2,10 @@
 use Rattle.std.specs.Prelude.{List, map, ◌≡◌, ◌*◌, ◌+◌, ◌<◌, ◌^◌, ◌≤◌, ℕ, get_or, length}
 use Rattle.std.proofs.lemmas.List.Edits.{sets}
 use Rattle.circuit.specs.Gate.{Gate, bytes_of, gate}
+use Rattle.circuit.specs.Kinds.{number_of}
 use Rattle.circuit.specs.Limits.{gate_bytes, max_wires, parities}
 use Rattle.circuit.specs.Sound.{SoundRows, SoundWeights}
+use Rattle.circuit.specs.declared.gates.GateKind.{GateKind}
 use Rattle.written.specs.Writing.{lack, next_masks, surplus, write_parity, write_phases, write_rows}
 use Rattle.synth.specs.declared.masks.Step.{Step}
 use Rattle.synth.specs.declared.storing.Writer.{Writer}
@@ -21,8 +23,8 @@ pub record Stored (w w' : Writer) (new : List Gate) : Type 0 where
 -- ---- the weights
 
 -- gates of these kinds, each on wire t alone
-abbrev pub on_wire : ℕ → List ℕ → List Gate
-on_wire t kinds = map (λ kind. gate kind t 0) kinds
+abbrev pub on_wire : ℕ → List GateKind → List Gate
+on_wire t kinds = map (λ kind. gate (number_of kind) t 0) kinds
 
 -- there is room for weight v at parity p
 pub record ParityReady (w : Writer) (n p v : ℕ) : Type 0 where

@@ -4,7 +4,7 @@ ghost use Rattle.written.specs.Spelling.{spell};
 ghost use Rattle.synth.specs.Storing.{Room, Stored};
 
 use crate::storing::Writer;
-use circuit::gates::{S, S_DAGGER, T, T_DAGGER};
+use circuit::gates::GateKind::{S, SDagger, T, TDagger};
 use circuit::limits::Weight;
 
 // Weight v on wire t: 1 to 7 as T; S; S T; S S; S dagger T dagger; S dagger; T dagger. A rack may have no Z of its own.
@@ -18,9 +18,9 @@ pub fn spell_out(to: &mut Writer<'_>, v: Weight, t: u8)
         2 => to.push_each(&[S], t),
         3 => to.push_each(&[S, T], t),
         4 => to.push_each(&[S, S], t),
-        5 => to.push_each(&[S_DAGGER, T_DAGGER], t),
-        6 => to.push_each(&[S_DAGGER], t),
-        7 => to.push_each(&[T_DAGGER], t),
+        5 => to.push_each(&[SDagger, TDagger], t),
+        6 => to.push_each(&[SDagger], t),
+        7 => to.push_each(&[TDagger], t),
         _ => {}
     }
 }

@@ -1,11 +1,12 @@
 // Gates stored in lent bytes, one after the other. Internal: the caller has found no fault, so that there is room.
 ghost use Rattle.std.specs.Prelude.{[], ◌∷◌, ◌≡◌, ◌≤◌};
 ghost use Rattle.circuit.specs.Gate.{gate};
+ghost use Rattle.circuit.specs.Kinds.{number_of};
 ghost use Rattle.circuit.specs.Limits.{max_wires};
 ghost use Rattle.synth.specs.Storing.{Room, Stored, on_wire};
 ghost use Rattle.written.specs.Writing.{cnots};
 
-use circuit::gates::CNOT;
+use circuit::gates::GateKind;
 use circuit::limits::{GATE_BYTES, Parity};
 use circuit::parity::next_wire;
 
@@ -27,21 +28,21 @@ impl<'a> Writer<'a> {
     }
 
     // One gate.
-    pub fn push(&mut self, kind: u8, a: u8, b: u8)
-        requires { Room self.old (gate kind a b ∷ []) }
-        ensures { Stored self.old self.new (gate kind a b ∷ []) }
+    pub fn push(&mut self, kind: GateKind, a: u8, b: u8)
+        requires { Room self.old (gate (number_of kind) a b ∷ []) }
+        ensures { Stored self.old self.new (gate (number_of kind) a b ∷ []) }
     {
         let i = GATE_BYTES * self.count;
         let gates = &mut *self.gates;
         // One by one: with `copy_from_slice` a list takes four times as long to write.
-        gates[i] = kind;
+        gates[i] = kind.into();
         gates[i + 1] = a;
         gates[i + 2] = b;
         self.count += 1;
     }
 
     // Gates of these kinds, in order, each on wire t alone.
-    pub fn push_each(&mut self, kinds: &[u8], t: u8)
+    pub fn push_each(&mut self, kinds: &[GateKind], t: u8)
         requires { Room self.old (on_wire t kinds.now) }
         ensures { Stored self.old self.new (on_wire t kinds.now) }
     {
@@ -58,7 +59,7 @@ impl<'a> Writer<'a> {
         // No `for`: it goes from one wire of q to the next, with no turn for those between.
         let mut i = next_wire(q, 0);
         while i < n {
-            self.push(CNOT, i as u8, t);
+            self.push(GateKind::Cnot, i as u8, t);
             i = next_wire(q, i + 1);
         }
     }

@@ -2,7 +2,7 @@
 use mathlib.Core.Path.{◌∙◌}
 use native.Mathlib.Omega.{arith}
 use Rattle.written.proofs.RowRule.{row_bad, row_end, row_good}
-use Rattle.synth.proofs.faults.beyond_fault.Goals as goal
+use Rattle.synth.proofs.faults.check_beyond.Goals as goal
 
 pub returns-then-row-row_most : goal.returns-then-row-row_most
 returns-then-row-row_most c =
@@ -13,4 +13,5 @@ loop-i-preserved c =
     row_good c.args.n c.loop-i.i c.args.rows.now (omega arith) (omega (arith, c.row_most.ensures)) ∙ c.loop-i.invariant
 
 pub returns : goal.returns
-returns c = row_end c.args.n c.loop-i.i c.args.rows.now (omega arith) ∙ c.loop-i.invariant
+returns c =
+    row_end c.args.n c.loop-i.i c.args.rows.now (omega arith) ∙ c.loop-i.invariant
