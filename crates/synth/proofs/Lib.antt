@@ -1,5 +1,4 @@
 pub mod Stores
-pub mod BitTests
 pub mod PhaseTurns
 pub mod RowTurns
 pub mod WriteWays

@@ -1,28 +1,32 @@
 -- Writing the weights: one turn, and the end, of each loop of the code, and each way out of a match, over plain numbers and lists.
-use mathlib.Core.List.{◌++◌, List, [], ◌∷◌, append-nil, map}
+use mathlib.Core.List.{◌++◌, List, [], ◌∷◌, append-nil}
 use mathlib.Core.Logic.{◌≢◌}
-use mathlib.Core.Path.{◌∙◌, ◌≡◌, ap, refl, subst, sym}
-use Prim.Native.Nat.{◌+◌, ◌<◌, ◌^◌, suc, zero, ℕ, ◌≤◌}
+use mathlib.Core.Path.{◌∙◌, ◌≡◌, ap, refl, subst}
+use Prim.Native.Nat.{◌%◌, ◌*◌, ◌+◌, ◌<◌, ◌^◌, suc, zero, ℕ, ◌≤◌}
 use native.Mathlib.Decide.{ℕ_discrete}
 use native.Mathlib.Nat.{le_refl}
 use native.Mathlib.Numerals.{add-one}
 use native.Mathlib.Omega.{arith}
 use lib.Bits.{bit_xor}
-use lib.ListN.{length, length-append}
+use lib.ListN.{get_or, length, length-append, length-map, length-take, take}
+use lib.Seq.{get_or-take, length-take-le, take_all}
+use Rattle.circuit.proofs.Steps.{shifted}
+use Rattle.std.proofs.lemmas.List.{map-append, take_more}
 use lib.Pow.{pow_mono}
 use Rattle.circuit.specs.Gate.{CNOT, Gate, gate}
+use Rattle.circuit.specs.Kinds.{number_of}
 use Rattle.circuit.specs.Limits.{max_wires, parities}
 use Rattle.circuit.specs.Sound.{weight}
+use Rattle.circuit.specs.declared.gates.GateKind.{GateKind}
 use Rattle.gf2.proofs.Steady.{steady}
 use Rattle.gf2.specs.Bit.{NextBit, bit}
 use Rattle.gf2.specs.Parity.{lowest}
 use Rattle.written.proofs.AllParities.{phases_grow}
-use Rattle.written.specs.Spelling.{spell, spelling}
+use Rattle.written.specs.Spelling.{spell}
 use Rattle.written.specs.Writing.{around, cnot_if, cnots, others, write_parity, write_phases}
 use Rattle.synth.proofs.Stores.{room_first, room_then, stored_none, stored_then}
-use Rattle.synth.specs.Storing.{ParityReady, PhasesReady, Room, Stored, kinds_of}
-use Rattle.synth.specs.declared.spelling.Kinds.{Kinds}
-use Rattle.synth.specs.declared.spelling.Kinds.TheVariants.{Nothing, One, Two}
+use Rattle.synth.specs.Storing.{ParityReady, PhasesReady, Room, Stored, on_wire}
+use Rattle.synth.specs.declared.storing.Writer.{Writer}
 
 -- ---- a CNOT from each wire of a mask
 
@@ -37,17 +41,17 @@ cnots_grow q t i (suc n) l = go (ℕ_discrete i (suc n)) (λ h. cnots_grow q t i
     go (no e) f = omega (arith, f (omega arith), length-append (cnots n q t) (cnot_if (bit q n) n t))
 
 -- those from the wires below k are stored, and i is the next wire that q names
-pub record CnotsTo (n q t : ℕ) (g g' : List ℕ) (j j' i : ℕ) : Type 0 where
+pub record CnotsTo (n q t : ℕ) (w w' : Writer) (i : ℕ) : Type 0 where
   pub k : ℕ
   pub inside : k ≤ n
   pub next : NextBit max_wires q k i
-  pub stored : Stored g g' j j' (cnots k q t)
+  pub stored : Stored w w' (cnots k q t)
 
-pub cnots_first : (n q t : ℕ) (g : List ℕ) (j : ℕ) {i : ℕ} → NextBit max_wires q 0 i → CnotsTo n q t g g j j i
+pub cnots_first : (n q t : ℕ) (w : Writer) {i : ℕ} → NextBit max_wires q 0 i → CnotsTo n q t w w i
 unfolding cnots
-cnots_first n q t g j h = record { k = 0; inside = omega arith; next = h; stored = stored_none g j }
+cnots_first n q t w h = record { k = 0; inside = omega arith; next = h; stored = stored_none w }
 
-module _ {n q t : ℕ} {g g' : List ℕ} {j j' i : ℕ} (h : CnotsTo n q t g g' j j' i) where
+module _ {n q t : ℕ} {w w' : Writer} {i : ℕ} (h : CnotsTo n q t w w' i) where
   -- the wires between have none
   cnots_at : (m : ℕ) → h.k ≤ m → m ≤ i → cnots m q t ≡ cnots h.k q t
   unfolding cnots cnot_if
@@ -55,7 +59,7 @@ module _ {n q t : ℕ} {g g' : List ℕ} {j j' i : ℕ} (h : CnotsTo n q t g g' 
       steady (λ m. cnots m q t) h.k m f
       (λ m a b e. rw (add-one m, h.next.passed m a (omega arith)) (append-nil (cnots m q t) ∙ e))
 
-  pub cnots_end : n ≤ i → Stored g g' j j' (cnots n q t)
+  pub cnots_end : n ≤ i → Stored w w' (cnots n q t)
   cnots_end l = rw (cnots_at n h.inside l) h.stored
 
   module _ (few : n ≤ max_wires) (l : i < n) where
@@ -63,50 +67,51 @@ module _ {n q t : ℕ} {g g' : List ℕ} {j j' i : ℕ} (h : CnotsTo n q t g g' 
     unfolding cnots cnot_if
     one_more = rw (add-one i, h.next.on (omega arith), cnots_at i h.next.from (le_refl i))
 
-    pub cnots_room : Room g j (cnots n q t) → Room g' j' (gate CNOT i t ∷ [])
+    pub cnots_room : Room w (cnots n q t) → Room w' (gate CNOT i t ∷ [])
     cnots_room r = room_then h.stored (gate CNOT i t ∷ []) (rw one_more at fits)
       where
-        fits : Room g j (cnots (i + 1) q t)
+        fits : Room w (cnots (i + 1) q t)
         fits = omega (arith, cnots_grow q t (i + 1) n (omega arith))
 
-    pub cnots_turn : {g'' : List ℕ} {j'' i' : ℕ} → Stored g' g'' j' j'' (gate CNOT i t ∷ []) → NextBit max_wires q (i + 1) i'
-        → CnotsTo n q t g g'' j j'' i'
+    pub cnots_turn : {w'' : Writer} {i' : ℕ} → Stored w' w'' (gate CNOT i t ∷ []) → NextBit max_wires q (i + 1) i'
+        → CnotsTo n q t w w'' i'
     cnots_turn u f = record { k = i + 1; inside = omega arith; next = f; stored = rw one_more (stored_then h.stored u) }
 
 -- ---- the spelling
 
--- a weight that is none of 1 to 7
-pub no_weight_left : (v : ℕ) → v < 8 → v ≢ 1 → v ≢ 2 → v ≢ 3 → v ≢ 4 → v ≢ 5 → v ≢ 6 → v ≢ 7 → v ≡ 0
-no_weight_left zero l a b c d e f g = refl
-no_weight_left (suc zero) l a b c d e f g = absurd (a refl)
-no_weight_left (suc (suc zero)) l a b c d e f g = absurd (b refl)
-no_weight_left (suc (suc (suc zero))) l a b c d e f g = absurd (c refl)
-no_weight_left (suc (suc (suc (suc zero)))) l a b c d e f g = absurd (d refl)
-no_weight_left (suc (suc (suc (suc (suc zero))))) l a b c d e f g = absurd (e refl)
-no_weight_left (suc (suc (suc (suc (suc (suc zero)))))) l a b c d e f g = absurd (f refl)
-no_weight_left (suc (suc (suc (suc (suc (suc (suc zero))))))) l a b c d e f g = absurd (g refl)
-no_weight_left (suc (suc (suc (suc (suc (suc (suc (suc v)))))))) l a b c d e f g = absurd (omega arith)
+pub kinds_first : (w : Writer) (t : ℕ) → Stored w w (on_wire t [])
+kinds_first w t = stored_none w
 
--- the gates that spell a weight, by the kinds that the code has found for it
-module _ (v t : ℕ) (r : Kinds) (is : kinds_of r ≡ spelling v) where
-  on_wire : (x : Kinds) → r ≡ x → spell v t ≡ map (λ kind. gate kind t 0) (kinds_of x)
-  unfolding spell
-  on_wire x e = ap (map (λ kind. gate kind t 0)) (sym is ∙ ap kinds_of e)
+-- one kind more is stored: there is room for it, and what is stored then. d stands for the kind where there are no more
+module _ (t : ℕ) (kinds : List GateKind) (d : GateKind) {w w' : Writer} {i : ℕ} (s : Stored w w' (on_wire t (take i kinds))) where
+  pub kinds_last : length kinds ≤ i → Stored w w' (on_wire t kinds)
+  kinds_last l = rw (← take_all i kinds l) s
 
-  pub spell_none : r ≡ Nothing → spell v t ≡ []
-  spell_none e = on_wire Nothing e
+  module _ (l : i < length kinds) where
+    grown : on_wire t (take (i + 1) kinds) ≡ on_wire t (take i kinds) ++ (gate (number_of (get_or kinds i d)) t 0 ∷ [])
+    grown = ap (on_wire t) (take_more kinds i d l) ∙ map-append (λ kind. gate (number_of kind) t 0) (take i kinds) (get_or kinds i d ∷ [])
 
-  pub spell_one : (kind : ℕ) → r ≡ One kind → spell v t ≡ gate kind t 0 ∷ []
-  spell_one kind e = on_wire (One kind) e
+    pub kind_room : Room w (on_wire t kinds) → Room w' (gate (number_of (get_or kinds i d)) t 0 ∷ [])
+    kind_room r = room_then s (gate (number_of (get_or kinds i d)) t 0 ∷ []) (rw grown at fits)
+      where
+        fits : Room w (on_wire t (take (i + 1) kinds))
+        fits =
+            omega (
+              arith,
+              length-map (take (i + 1) kinds) (λ kind. gate (number_of kind) t 0),
+              length-map kinds (λ kind. gate (number_of kind) t 0),
+              length-take (i + 1) kinds,
+            )
 
-  pub spell_two : (first second : ℕ) → r ≡ Two first second → spell v t ≡ gate first t 0 ∷ gate second t 0 ∷ []
-  spell_two first second e = on_wire (Two first second) e
+    pub kind_turn : {w'' : Writer} → Stored w' w'' (gate (number_of (get_or kinds i d)) t 0 ∷ [])
+        → Stored w w'' (on_wire t (take (i + 1) kinds))
+    kind_turn u = rw grown (stored_then s u)
 
 -- ---- one parity
 
-pub parity-none : (g : List ℕ) (k n p v : ℕ) → v ≡ 0 → Stored g g k k (write_parity max_wires n p v)
+pub parity-none : (w : Writer) (n p v : ℕ) → v ≡ 0 → Stored w w (write_parity max_wires n p v)
 unfolding write_parity
-parity-none g k n p v e = rw e (stored_none g k)
+parity-none w n p v e = rw e (stored_none w)
 
 parity-parts : (n p v t q : ℕ) → v ≢ 0 → t ≡ lowest max_wires p → q ≡ others max_wires p
     → write_parity max_wires n p v ≡ cnots n q t ++ (spell v t ++ cnots n q t)
@@ -115,32 +120,31 @@ parity-parts n p zero t q h et eq = absurd (h refl)
 parity-parts n p (suc v) t q h et eq = rw (et, eq)
 
 -- CNOTs, the spelling, CNOTs: there is room for each, and together they are the parity. Wire t is the lowest of p, and u its own parity
-module _ {g : List ℕ} {k n p v t u : ℕ} (ready : ParityReady g k n p v) (some : v ≢ 0) (et : t ≡ lowest max_wires p) (eu : u ≡ 2 ^ t) where
+module _ {w : Writer} {n p v t u : ℕ} (ready : ParityReady w n p v) (some : v ≢ 0) (et : t ≡ lowest max_wires p) (eu : u ≡ 2 ^ t) where
   abbrev bringing : List Gate
   bringing = cnots n (bit_xor p u) t
 
   parts : write_parity max_wires n p v ≡ bringing ++ (spell v t ++ bringing)
   parts = parity-parts n p v t (bit_xor p u) some et (ap (bit_xor p) (eu ∙ ap (λ (i : ℕ). 2 ^ i) et))
 
-  whole : Room g k (bringing ++ (spell v t ++ bringing))
-  whole = subst (λ (gs : List Gate). Room g k gs) parts ready.room
+  whole : Room w (bringing ++ (spell v t ++ bringing))
+  whole = subst (λ (gs : List Gate). Room w gs) parts ready.room
 
-  pub parity-room : Room g k (cnots n (bit_xor p u) t)
-  parity-room = room_first g k bringing (spell v t ++ bringing) whole
+  pub parity-room : Room w (cnots n (bit_xor p u) t)
+  parity-room = room_first w bringing (spell v t ++ bringing) whole
 
-  module _ {g₁ : List ℕ} {k₁ : ℕ} (a : Stored g g₁ k k₁ (cnots n (bit_xor p u) t)) where
-    rest : Room g₁ k₁ (spell v t ++ bringing)
+  module _ {w₁ : Writer} (a : Stored w w₁ (cnots n (bit_xor p u) t)) where
+    rest : Room w₁ (spell v t ++ bringing)
     rest = room_then a (spell v t ++ bringing) whole
 
-    pub spell_room : Room g₁ k₁ (spell v t)
-    spell_room = room_first g₁ k₁ (spell v t) bringing rest
+    pub spell_room : Room w₁ (spell v t)
+    spell_room = room_first w₁ (spell v t) bringing rest
 
-    module _ {g₂ : List ℕ} {k₂ : ℕ} (b : Stored g₁ g₂ k₁ k₂ (spell v t)) where
-      pub undo_room : Room g₂ k₂ (cnots n (bit_xor p u) t)
+    module _ {w₂ : Writer} (b : Stored w₁ w₂ (spell v t)) where
+      pub undo_room : Room w₂ (cnots n (bit_xor p u) t)
       undo_room = room_then b bringing rest
 
-      pub parity-stored : {g₃ : List ℕ} {k₃ : ℕ} → Stored g₂ g₃ k₂ k₃ (cnots n (bit_xor p u) t)
-          → Stored g g₃ k k₃ (write_parity max_wires n p v)
+      pub parity-stored : {w₃ : Writer} → Stored w₂ w₃ (cnots n (bit_xor p u) t) → Stored w w₃ (write_parity max_wires n p v)
       parity-stored d = rw parts (stored_then a (stored_then b d))
 
 -- ---- all parities
@@ -148,28 +152,48 @@ module _ {g : List ℕ} {k n p v t u : ℕ} (ready : ParityReady g k n p v) (som
 pub parities_fit : (n : ℕ) → n ≤ max_wires → 2 ^ n ≤ parities
 parities_fit n h = pow_mono {i = n} {j = max_wires} h
 
-pub phases_first : (g : List ℕ) (n : ℕ) (w : List ℕ) → Stored g g 0 0 (write_phases max_wires n w 0)
+pub phases_first : (to : Writer) (n : ℕ) (weights : List ℕ) → Stored to to (write_phases max_wires n weights 0)
 unfolding write_phases
-phases_first g n w = stored_none g 0
+phases_first to n weights = stored_none to
 
-module _ {g g' : List ℕ} {k : ℕ} (n p : ℕ) (w : List ℕ) (s : Stored g g' 0 k (write_phases max_wires n w p)) where
-  next_phases : write_phases max_wires n w (p + 1) ≡ write_phases max_wires n w p ++ write_parity max_wires n p (weight w p)
-  unfolding write_phases
-  next_phases = rw (add-one p)
+-- the code goes through the first 2^n weights; its shifted one is 2^n in a word of 64 bits
+shifted_one : (n : ℕ) → n ≤ max_wires → 1 * 2 ^ n % 2 ^ 64 ≡ 2 ^ n
+shifted_one n l = shifted 64 n (omega arith)
 
-  pub parity-ready : PhasesReady g n w → p < 2 ^ n → ParityReady g' k n p (weight w p)
-  parity-ready ready l =
-      record {
-        few = ready.few;
-        inside = omega (arith, parities_fit n ready.few);
-        small = ready.sound.small p;
-        none = λ e. ap (weight w) e ∙ ready.sound.none;
-        room = room_then s (write_parity max_wires n p (weight w p)) (rw next_phases at fits);
-      }
-    where
-      fits : Room g 0 (write_phases max_wires n w (p + 1))
-      fits = omega (arith, phases_grow max_wires n w (p + 1) (2 ^ n) (omega arith), ready.room)
+module _ {to to' : Writer} (n p : ℕ) (weights : List ℕ) (ready : PhasesReady to n weights)
+    (s : Stored to to' (write_phases max_wires n weights p)) where
+  long : length (take (1 * 2 ^ n % 2 ^ 64) weights) ≡ 2 ^ n
+  long =
+      rw (shifted_one n ready.few) (length-take-le (2 ^ n) weights (omega (arith, ready.sound.long, parities_fit n ready.few)))
 
-  pub phases_turn : {g'' : List ℕ} {k' : ℕ} → Stored g' g'' k k' (write_parity max_wires n p (weight w p))
-      → Stored g g'' 0 k' (write_phases max_wires n w (p + 1))
-  phases_turn u = rw next_phases (stored_then s u)
+  pub phases_last : p ≡ length (take (1 * 2 ^ n % 2 ^ 64) weights) → Stored to to' (write_phases max_wires n weights (2 ^ n))
+  phases_last e = rw (← long, ← e) s
+
+  module _ (l : p < length (take (1 * 2 ^ n % 2 ^ 64) weights)) where
+    below : p < 2 ^ n
+    below = omega (arith, long)
+
+    here : get_or (take (1 * 2 ^ n % 2 ^ 64) weights) p 0 ≡ weight weights p
+    here = rw (shifted_one n ready.few) (get_or-take (2 ^ n) weights p 0 below)
+
+    next_phases : write_phases max_wires n weights (p + 1)
+        ≡ write_phases max_wires n weights p ++ write_parity max_wires n p (get_or (take (1 * 2 ^ n % 2 ^ 64) weights) p 0)
+    unfolding write_phases
+    next_phases = rw (add-one p, here)
+
+    pub parity-ready : ParityReady to' n p (get_or (take (1 * 2 ^ n % 2 ^ 64) weights) p 0)
+    parity-ready =
+        record {
+          few = ready.few;
+          inside = omega (arith, below, parities_fit n ready.few);
+          small = rw here (ready.sound.small p);
+          none = λ e. here ∙ ap (weight weights) e ∙ ready.sound.none;
+          room = room_then s (write_parity max_wires n p (get_or (take (1 * 2 ^ n % 2 ^ 64) weights) p 0)) (rw next_phases at fits);
+        }
+      where
+        fits : Room to (write_phases max_wires n weights (p + 1))
+        fits = omega (arith, phases_grow max_wires n weights (p + 1) (2 ^ n) (omega (arith, below)), ready.room)
+
+    pub phases_turn : {to'' : Writer} → Stored to' to'' (write_parity max_wires n p (get_or (take (1 * 2 ^ n % 2 ^ 64) weights) p 0))
+        → Stored to to'' (write_phases max_wires n weights (p + 1))
+    phases_turn u = rw next_phases (stored_then s u)

@@ -12,56 +12,73 @@ use Rattle.circuit.specs.Lent.{KeptFrom}
 use Rattle.circuit.specs.Limits.{gate_bytes}
 use Rattle.circuit.proofs.Bytes.{bytes_append, length-bytes}
 use Rattle.synth.specs.Storing.{Room, Stored}
+use Rattle.synth.specs.declared.storing.Writer.{Writer}
 
-pub stored_none : (g : List ℕ) (k : ℕ) → Stored g g k k []
+pub stored_none : (w : Writer) → Stored w w []
 unfolding bytes_of
-stored_none g k = record { count = sym (add-zero k); bytes = refl }
+stored_none w = record { same = refl; counted = sym (add-zero w.count); bytes = refl }
 
 -- three bytes stored one after the other
-pub stored_one : (g : List ℕ) (k kind a b : ℕ)
-    → Stored g (set (set (set g (gate_bytes * k) kind) (gate_bytes * k + 1) a) (gate_bytes * k + 2) b) k (k + 1) (gate kind a b ∷ [])
+pub stored_one : (w w' : Writer) (kind a b : ℕ) {byte : ℕ} → byte ≡ kind → w'.gates.ghost_name ≡ w.gates.ghost_name
+    → w'.count ≡ w.count + 1
+    → w'.gates.now ≡ set (set (set w.gates.now (gate_bytes * w.count) byte) (gate_bytes * w.count + 1) a) (gate_bytes * w.count + 2) b
+    → Stored w w' (gate kind a b ∷ [])
 unfolding bytes_of
-stored_one g k kind a b = record { count = refl; bytes = three_stored g (gate_bytes * k) kind a b kind a b refl refl refl }
+stored_one w w' kind a b {byte} e same counted put =
+    record {
+      same = same;
+      counted = counted;
+      bytes = put ∙ three_stored w.gates.now (gate_bytes * w.count) byte a b kind a b e refl refl;
+    }
 
-module _ {g g' : List ℕ} {k k' : ℕ} {xs : List Gate} (a : Stored g g' k k' xs) where
-  pub stored_same : length g' ≡ length g
-  stored_same = ap length a.bytes ∙ length-sets g (gate_bytes * k) (bytes_of xs)
+module _ {w w' : Writer} {xs : List Gate} (a : Stored w w' xs) where
+  pub stored_same : length w'.gates.now ≡ length w.gates.now
+  stored_same = ap length a.bytes ∙ length-sets w.gates.now (gate_bytes * w.count) (bytes_of xs)
 
-  pub stored_then : {g'' : List ℕ} {k'' : ℕ} {ys : List Gate} → Stored g' g'' k' k'' ys → Stored g g'' k k'' (xs ++ ys)
-  stored_then {g''} {k''} {ys} b =
+  pub stored_then : {w'' : Writer} {ys : List Gate} → Stored w' w'' ys → Stored w w'' (xs ++ ys)
+  stored_then {w''} {ys} b =
       record {
-        count = omega (arith, a.count, b.count, length-append xs ys);
+        same = b.same ∙ a.same;
+        counted = omega (arith, a.counted, b.counted, length-append xs ys);
         bytes =
-            b.bytes ∙ ap (λ (h : List ℕ). sets h (gate_bytes * k') (bytes_of ys)) a.bytes
-            ∙ sets_append g (bytes_of xs) (bytes_of ys) (gate_bytes * k) (gate_bytes * k') (omega (arith, length-bytes xs, a.count))
-            ∙ ap (sets g (gate_bytes * k)) (sym (bytes_append xs ys));
+            b.bytes ∙ ap (λ (h : List ℕ). sets h (gate_bytes * w'.count) (bytes_of ys)) a.bytes
+            ∙ sets_append w.gates.now (bytes_of xs) (bytes_of ys) (gate_bytes * w.count) (gate_bytes * w'.count)
+            (omega (arith, length-bytes xs, a.counted))
+            ∙ ap (sets w.gates.now (gate_bytes * w.count)) (sym (bytes_append xs ys));
       }
 
   -- room for all is room for the rest
-  pub room_then : (ys : List Gate) → Room g k (xs ++ ys) → Room g' k' ys
-  room_then ys r = omega (arith, a.count, length-append xs ys, stored_same)
+  pub room_then : (ys : List Gate) → Room w (xs ++ ys) → Room w' ys
+  room_then ys r = omega (arith, a.counted, length-append xs ys, stored_same)
 
 -- and for the first part
-pub room_first : (g : List ℕ) (k : ℕ) (xs ys : List Gate) → Room g k (xs ++ ys) → Room g k xs
-room_first g k xs ys r = omega (arith, length-append xs ys)
+pub room_first : (w : Writer) (xs ys : List Gate) → Room w (xs ++ ys) → Room w xs
+room_first w xs ys r = omega (arith, length-append xs ys)
 
--- ---- what the stores leave
+-- ---- what the stores leave, from the first byte on
 
-module _ {g g' : List ℕ} {k : ℕ} {gs : List Gate} (a : Stored g g' 0 k gs) (r : Room g 0 gs) where
-  end : length (bytes_of gs) ≡ gate_bytes * k
-  end = omega (arith, a.count, length-bytes gs)
+module _ {w w' : Writer} {gs : List Gate} (a : Stored w w' gs) (first : w.count ≡ 0) (r : Room w gs) where
+  end : length (bytes_of gs) ≡ gate_bytes * w'.count
+  end = omega (arith, a.counted, length-bytes gs)
 
-  split : g' ≡ bytes_of gs ++ drop (gate_bytes * k) g
+  split : w'.gates.now ≡ bytes_of gs ++ drop (gate_bytes * w'.count) w.gates.now
   split =
-      a.bytes ∙ sets_placed g 0 (bytes_of gs) (omega (arith, length-bytes gs))
-      ∙ let e : 0 + length (bytes_of gs) ≡ gate_bytes * k = omega (arith, end) in ap (λ (j : ℕ). bytes_of gs ++ drop j g) e
+      a.bytes
+      ∙ (let z : gate_bytes * w.count ≡ 0 = omega arith in ap (λ (j : ℕ). sets w.gates.now j (bytes_of gs)) z)
+      ∙ sets_placed w.gates.now 0 (bytes_of gs) (omega (arith, length-bytes gs))
+      ∙ let e : 0 + length (bytes_of gs) ≡ gate_bytes * w'.count = omega (arith, end) in
+      ap (λ (j : ℕ). bytes_of gs ++ drop j w.gates.now) e
 
-  pub stored_front : take (gate_bytes * k) g' ≡ bytes_of gs
-  stored_front = ap (take (gate_bytes * k)) split ∙ take_at (bytes_of gs) (drop (gate_bytes * k) g) (gate_bytes * k) end
+  pub stored_front : take (gate_bytes * w'.count) w'.gates.now ≡ bytes_of gs
+  stored_front =
+      ap (take (gate_bytes * w'.count)) split
+      ∙ take_at (bytes_of gs) (drop (gate_bytes * w'.count) w.gates.now) (gate_bytes * w'.count) end
 
-  pub stored_kept : KeptFrom (gate_bytes * k) g g'
+  pub stored_kept : KeptFrom (gate_bytes * w'.count) w.gates.now w'.gates.now
   stored_kept =
       record {
         long = stored_same a;
-        kept = ap (drop (gate_bytes * k)) split ∙ drop_at (bytes_of gs) (drop (gate_bytes * k) g) (gate_bytes * k) end;
+        kept =
+            ap (drop (gate_bytes * w'.count)) split
+            ∙ drop_at (bytes_of gs) (drop (gate_bytes * w'.count) w.gates.now) (gate_bytes * w'.count) end;
       }

@@ -1,16 +1,22 @@
 -- One law for each way out of the entry `write`: the tests that led there give the reply, and the gates are as it says.
 use mathlib.Core.List.{◌++◌, List}
-use mathlib.Core.Logic.{◌≢◌}
 use mathlib.Core.Path.{ap, refl, subst, sym, ◌∙◌, ◌≡◌}
-use Prim.Native.Nat.{◌*◌, ◌^◌, suc, zero, ℕ}
+use Prim.Native.Nat.{◌*◌, ◌^◌, ℕ}
 use native.Mathlib.Omega.{arith}
 use lib.ListN.{length, take}
 use Rattle.circuit.proofs.Bytes.{gates_of_bytes, length-bytes}
+use Rattle.std.specs.Prelude.{Err, Ok, Result}
+use Rattle.circuit.proofs.Judging.{refused_not_done}
+use Rattle.circuit.proofs.Results.{numbered, refused_keeps}
 use Rattle.circuit.proofs.TableRule.{call_done, call_refusal}
 use Rattle.circuit.specs.Faults.{Accepted}
 use Rattle.circuit.specs.Gate.{Gate, bytes_of, gates_of}
-use Rattle.circuit.specs.Lent.{front_gates, reading_lent}
+use Rattle.circuit.specs.Lent.{KeptFrom, front_gates, reading_lent}
 use Rattle.circuit.specs.Limits.{gate_bytes, max_wires}
+use Rattle.circuit.specs.Replies.{Refused}
+use Rattle.circuit.specs.Told.{number, told}
+use Rattle.circuit.specs.declared.faults.Fault.{Fault}
+use Rattle.circuit.specs.declared.faults.Refusal.{Refusal}
 use Rattle.written.proofs.Checks.{fault_ready, longest}
 use Rattle.written.proofs.WriteBack.{list_written}
 use Rattle.written.specs.Chosen.{chosen_is}
@@ -20,68 +26,68 @@ use Rattle.written.specs.Wrote.{Wrote}
 use Rattle.synth.proofs.Stores.{room_first, room_then, stored_front, stored_kept, stored_then}
 use Rattle.synth.specs.Entry.{GatesLeft, WriteList, WroteBytes}
 use Rattle.synth.specs.Storing.{PhasesReady, Room, RowsReady, Stored}
-use Rattle.synth.specs.declared.Written.TheVariants.{Done, Refused}
+use Rattle.synth.specs.declared.storing.Writer.{Writer}
 
 -- ---- the ways out
 
-module _ (n : ℕ) (w rows g : List ℕ) (f : ℕ) (judged : f ≡ write_fault n w rows (length g)) where
-  pub write_refused : f ≢ 0 → WriteList n w rows g g (Refused f 0)
-  write_refused h = record { reply = call_refusal f (write_fault n w rows (length g)) judged h; gates_left = left f h }
-    where
-      left : (f : ℕ) → f ≢ 0 → GatesLeft f 0 n w rows g g
-      left zero h = absurd (h refl)
-      left (suc f) h = refl
+module _ (n : ℕ) (w rows g : List ℕ) where
+  pub write_refused : (r : Result ℕ Refusal) (fault : Fault) → told r ≡ Refused (number fault) 0
+      → number fault ≡ write_fault n w rows (length g) → WriteList n w rows g g r
+  write_refused (Ok count) fault said judged = absurd (refused_not_done (number fault) 0 (sym said))
+  write_refused (Err r) fault said judged =
+      record {
+        reply = said ∙ call_refusal (number fault) (write_fault n w rows (length g)) judged (numbered fault);
+        gates_left = refused_keeps (λ (f : ℕ). GatesLeft f 0 n w rows g g) (λ f. refl) r;
+      }
 
-  module _ (clear : f ≡ 0) where
-    pub may_write : Writable n w rows (length g)
-    may_write = fault_ready n w rows (length g) (sym judged ∙ clear)
+  -- nothing is at fault, and these are the same weights and rows, as arrays
+  module _ (clear : 0 ≡ write_fault n w rows (length g)) {weights' rows' : List ℕ} (same : (weights' ≡ w) × (rows' ≡ rows)) where
+    pub may_write : Writable n weights' rows' (length g)
+    may_write = rw (same.0, same.1) (fault_ready n w rows (length g) (sym clear))
 
-    pub write_done : (g' : List ℕ) (count : ℕ) → WroteBytes n w rows g g' count → WriteList n w rows g g' (Done count)
-    write_done g' count d = record { reply = call_done f (write_fault n w rows (length g)) judged clear; gates_left = d }
+    pub write_done : {g' : List ℕ} {count : ℕ} → WroteBytes n weights' rows' g g' count → WriteList n w rows g g' (Ok count)
+    write_done {g'} {count} d =
+        record { reply = call_done 0 (write_fault n w rows (length g)) clear refl; gates_left = rw (same.0, same.1) at d }
 
 -- ---- the gates stored
 
-module _ (g : List ℕ) {n : ℕ} {w rows : List ℕ} (ready : Writable n w rows (length g)) where
+-- the writer begins at the first of the lent bytes
+module _ (n : ℕ) (weights rows g : List ℕ) (ready : Writable n weights rows (length g)) (to : Writer) (lent : to.gates.now ≡ g)
+    (first : to.count ≡ 0) where
   abbrev phases : List Gate
-  phases = write_phases max_wires n w (2 ^ n)
+  phases = write_phases max_wires n weights (2 ^ n)
 
-  wrote : Wrote max_wires n (reading_lent w rows) (phases ++ write_rows n rows)
-  wrote = list_written max_wires n ready.few w rows ready.weights_sound ready.rows_sound
+  wrote : Wrote max_wires n (reading_lent weights rows) (phases ++ write_rows n rows)
+  wrote = list_written max_wires n ready.few weights rows ready.weights_sound ready.rows_sound
 
-  room : Room g 0 (phases ++ write_rows n rows)
-  room = omega (arith, wrote.short, longest n ready.few, ready.room)
+  room : Room to (phases ++ write_rows n rows)
+  room = omega (arith, wrote.short, longest n ready.few, ready.room, ap length lent)
 
-  pub phases_ready : PhasesReady g n w
-  phases_ready = record { few = ready.few; sound = ready.weights_sound; room = room_first g 0 phases (write_rows n rows) room }
+  pub phases_ready : PhasesReady to n weights
+  phases_ready = record { few = ready.few; sound = ready.weights_sound; room = room_first to phases (write_rows n rows) room }
 
-  -- m is the copy of the rows
-  module _ {g₁ : List ℕ} {k : ℕ} (a : Stored g g₁ 0 k (write_phases max_wires n w (2 ^ n))) {m : List ℕ} (same : m ≡ rows) where
-    pub rows_ready : RowsReady g₁ k n m
-    rows_ready = rw same (record { few = ready.few; sound = ready.rows_sound; room = room_then a (write_rows n rows) room })
+  module _ {to₁ : Writer} (a : Stored to to₁ (write_phases max_wires n weights (2 ^ n))) where
+    pub rows_ready : RowsReady to₁ n rows
+    rows_ready = record { few = ready.few; sound = ready.rows_sound; room = room_then a (write_rows n rows) room }
 
-    pub gates_stored : {g₂ : List ℕ} {count : ℕ} → Stored g₁ g₂ k count (write_rows n m) → WroteBytes n w rows g g₂ count
-    gates_stored {g₂} {count} b =
-        record {
-          counted = omega (arith, all.count, ap length front);
-          accepted = accepted;
-          list = subst (λ (hs : List Gate). Wrote max_wires n (reading_lent w rows) hs) (sym front) wrote;
-          alone = front ∙ sym (chosen_is max_wires n (reading_lent w rows));
-          kept = stored_kept all room;
-        }
+    -- `left` is what stands in the lent bytes then
+    pub gates_stored : {to₂ : Writer} {left : List ℕ} {count : ℕ} → Stored to₁ to₂ (write_rows n rows) → left ≡ to₂.gates.now
+        → count ≡ to₂.count → WroteBytes n weights rows g left count
+    gates_stored {to₂} {left} {count} b e f = rw (e, f) whole
       where
         gs : List Gate
         gs = phases ++ write_rows n rows
 
-        all : Stored g g₂ 0 count gs
-        all = stored_then a (subst (λ (x : List ℕ). Stored g₁ g₂ k count (write_rows n x)) same b)
+        all : Stored to to₂ gs
+        all = stored_then a b
 
-        bytes : take (gate_bytes * count) g₂ ≡ bytes_of gs
-        bytes = stored_front all room
+        bytes : take (gate_bytes * to₂.count) to₂.gates.now ≡ bytes_of gs
+        bytes = stored_front all first room
 
-        front : front_gates count g₂ ≡ gs
+        front : front_gates to₂.count to₂.gates.now ≡ gs
         front = ap gates_of bytes ∙ gates_of_bytes gs
 
-        accepted : Accepted n (take (gate_bytes * count) g₂)
+        accepted : Accepted n (take (gate_bytes * to₂.count) to₂.gates.now)
         accepted =
             record {
               some = ready.some;
@@ -89,4 +95,14 @@ module _ (g : List ℕ) {n : ℕ} {w rows : List ℕ} (ready : Writable n w rows
               whole = rw (bytes, length-bytes gs) (omega arith);
               short = rw (bytes, length-bytes gs) (omega (arith, wrote.short, longest n ready.few));
               formed = rw front wrote.formed;
+            }
+
+        whole : WroteBytes n weights rows g to₂.gates.now to₂.count
+        whole =
+            record {
+              counted = omega (arith, all.counted, first, ap length front);
+              accepted = accepted;
+              list = subst (λ (hs : List Gate). Wrote max_wires n (reading_lent weights rows) hs) (sym front) wrote;
+              alone = front ∙ sym (chosen_is max_wires n (reading_lent weights rows));
+              kept = subst (λ (h : List ℕ). KeptFrom (gate_bytes * to₂.count) h to₂.gates.now) lent (stored_kept all first room);
             }

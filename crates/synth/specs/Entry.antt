@@ -1,29 +1,22 @@
 -- The entry `write`: its reply and what it leaves in the lent gates, for sound and faulty arguments alike. What the papers leave free of
 -- the list is named with what holds of it (written/Wrote).
-use Rattle.std.specs.Prelude.{List, ◌≡◌, ◌*◌, suc, zero, ℕ, length}
+use Rattle.std.specs.Prelude.{Err, List, Ok, Result, ◌≡◌, ◌*◌, suc, zero, ℕ, length}
 use Rattle.circuit.specs.Faults.{Accepted, call_reply}
 use Rattle.circuit.specs.Lent.{KeptFrom, front_bytes, front_gates, reading_lent}
 use Rattle.circuit.specs.Limits.{gate_bytes, max_wires}
 use Rattle.circuit.specs.Replies.{number_of}
-use Rattle.circuit.specs.Replies.{Reply}
-use Rattle.circuit.specs.Replies as reply
+use Rattle.circuit.specs.Told.{told}
+use Rattle.circuit.specs.declared.faults.Refusal.{Refusal}
 use Rattle.written.specs.Chosen.{chosen}
 use Rattle.written.specs.Faults.{write_fault}
 use Rattle.written.specs.Wrote.{Wrote}
-use Rattle.synth.specs.declared.Written.{Written}
-use Rattle.synth.specs.declared.Written.TheVariants.{Done, Refused}
 
 -- ---- the reply
 
--- each case in document 01's number and place: done, or the fault
-abbrev pub told : Written → Reply
-told (Done count) = reply.Done
-told (Refused number place) = reply.Refused number place
-
 -- the number of gates written, 0 where none are
-abbrev pub count_of : Written → ℕ
-count_of (Done count) = count
-count_of (Refused number place) = 0
+abbrev pub count_of : Result ℕ Refusal → ℕ
+count_of (Ok count) = count
+count_of (Err refusal) = 0
 
 -- ---- the lent gates
 
@@ -45,6 +38,6 @@ GatesLeft zero count n weights rows gates gates' = WroteBytes n weights rows gat
 GatesLeft (suc fault) count n weights rows gates gates' = gates' ≡ gates
 
 -- `write`, called with these weights, rows and gates, replies r and leaves gates'
-pub record WriteList (n : ℕ) (weights rows gates gates' : List ℕ) (r : Written) : Type 0 where
+pub record WriteList (n : ℕ) (weights rows gates gates' : List ℕ) (r : Result ℕ Refusal) : Type 0 where
   pub reply : told r ≡ call_reply (write_fault n weights rows (length gates))
   pub gates_left : GatesLeft (number_of (told r)) (count_of r) n weights rows gates gates'

@@ -1,54 +1,57 @@
-// The faults of a call that writes a list: 1, 8, 6, then 7 of document 01. Each function gives the fault's number, or 0 for none.
-ghost use Rattle.std.specs.Prelude.{◌≡◌, ◌-◌, ◌^◌, ◌≤◌};
+// The checks of a call that writes a list: 1, 8, 6, then 7 of document 01. What has no fault is a table of weights and one of rows, and is
+// given back so.
+ghost use Rattle.std.specs.Prelude.{◌≡◌, ◌-◌, ◌^◌, ◌≤◌, IfOk};
 ghost use Rattle.circuit.specs.Limits.{max_wires, row_cells};
+ghost use Rattle.circuit.specs.Told.{fault_told};
 ghost use Rattle.written.specs.Faults.{Shaped, row_most, beyond_fault, cancel_fault, rows_fault, write_fault};
 
-use crate::masks::{copied, pivot_of, row_step};
-use circuit::cells::cell_at;
-use circuit::limits::{MAX_WIRES, Parity, ROW_CELLS, WRITE_BYTES, Weight};
-use judges::faults::{ROW_RULE, short_fault};
-use judges::table_faults::weights_call_fault;
+use crate::masks::{pivot_of, row_step};
+use circuit::faults::Fault;
+use circuit::limits::{MAX_WEIGHT, MAX_WIRES, Parity, TABLE_BYTES, WRITE_BYTES, Weight};
+use judges::faults::check_room;
+use judges::table_faults::check_call;
 
 // The first fault of a call, by the length of the gates lent.
-pub fn write_fault(n: usize, weights: &[Weight], rows: &[Parity], gates: usize) -> u8
-    ensures { result ≡ write_fault n weights.now rows.now gates }
+pub fn check_write<'a>(
+    n: usize,
+    weights: &'a [Weight],
+    rows: &'a [Parity],
+    gates: usize,
+) -> Result<(&'a [Weight; TABLE_BYTES], &'a [Parity; MAX_WIRES]), Fault>
+    ensures fault { fault_told result ≡ write_fault n weights.now rows.now gates }
+    ensures same { IfOk result (λ sound. (sound.0.now ≡ weights.now) × (sound.1.now ≡ rows.now)) }
 {
-    let lent = short_fault(gates, WRITE_BYTES);
-    let fault = weights_call_fault(n, lent, weights);
-    if fault != 0 {
-        return fault;
-    }
-    rows_fault(n, rows)
+    let lent = check_room(gates, WRITE_BYTES);
+    let weights = check_call(n, lent, MAX_WEIGHT, weights)?;
+    let rows = check_rows(n, rows)?;
+    Ok((weights, rows))
 }
 
 // Fault 7: rows that are not one for each wire there can be, have a bit or row beyond n, or are not invertible.
-fn rows_fault(n: usize, rows: &[Parity]) -> u8
+fn check_rows(n: usize, rows: &[Parity]) -> Result<&[Parity; MAX_WIRES], Fault>
     requires { n ≤ max_wires }
-    ensures { result ≡ rows_fault row_cells n rows.now }
+    ensures fault { fault_told result ≡ rows_fault row_cells n rows.now }
+    ensures same { IfOk result (λ whole. whole.now ≡ rows.now) }
 {
-    if rows.len() != ROW_CELLS {
-        return ROW_RULE;
-    }
-    let fault = beyond_fault(n, rows);
-    if fault != 0 {
-        return fault;
-    }
-    cancel_fault(n, copied(rows))
+    let Some(whole) = rows.as_array::<MAX_WIRES>() else {
+        return Err(Fault::RowRule);
+    };
+    check_beyond(n, whole)?;
+    check_dependence(n, whole)?;
+    Ok(whole)
 }
 
 // A bit or row beyond n.
-fn beyond_fault(n: usize, rows: &[Parity]) -> u8
+fn check_beyond(n: usize, rows: &[Parity; MAX_WIRES]) -> Result<(), Fault>
     requires { n ≤ max_wires }
-    ensures { result ≡ beyond_fault n 0 rows.now }
+    ensures { fault_told result ≡ beyond_fault n 0 rows.now }
 {
-    let mut i: usize = 0;
-    while i < rows.len() {
-        if cell_at(rows, i) > row_most(n, i) {
-            return ROW_RULE;
+    for (i, &row) in rows.iter().enumerate() {
+        if row > row_most(n, i) {
+            return Err(Fault::RowRule);
         }
-        i += 1;
     }
-    0
+    Ok(())
 }
 
 fn row_most(n: usize, i: usize) -> Parity
@@ -63,17 +66,14 @@ fn row_most(n: usize, i: usize) -> Parity
 }
 
 // Dependent rows: some mask, on the way to 2^i, has no pivot.
-fn cancel_fault(n: usize, rows: [Parity; MAX_WIRES]) -> u8
-    requires { (n ≤ max_wires) × Shaped max_wires n rows }
-    ensures { result ≡ cancel_fault (2 ^ n - 1) rows }
+fn check_dependence(n: usize, rows: &[Parity; MAX_WIRES]) -> Result<(), Fault>
+    requires { (n ≤ max_wires) × Shaped max_wires n rows.now }
+    ensures { fault_told result ≡ cancel_fault (2 ^ n - 1) rows.now }
 {
-    let mut masks = rows;
+    let mut masks = *rows;
     for r in 0..n {
-        let b = pivot_of(n, r, cell_at(&masks, r));
-        if b >= n {
-            return ROW_RULE;
-        }
+        let b = pivot_of(n, r, masks[r]).ok_or(Fault::RowRule)?;
         row_step(&mut masks, r, b);
     }
-    0
+    Ok(())
 }

@@ -14,41 +14,40 @@ pub mod rows;
 pub mod spelling;
 pub mod storing;
 
-use circuit::limits::{Parity, Weight};
-use faults::write_fault;
-use masks::copied;
+use circuit::faults::Refusal;
+use circuit::limits::{MAX_WIRES, Parity, TABLE_BYTES, Weight};
+use faults::check_write;
 use phases::write_phases;
 use rows::write_rows;
+use storing::Writer;
 
-// The reply of `write`: the number of gates written, or document 01's number and place of the fault.
-#[derive(Drop)]
-pub enum Written {
-    Done { count: usize },
-    Refused { number: u8, place: usize },
-}
-
-// Writes gates for weights and rows into lent bytes, from the first byte on. A refusal leaves them as they were.
-pub fn write(n: usize, weights: &[Weight], rows: &[Parity], gates: &mut [u8]) -> Written
+// Writes gates for weights and rows into lent bytes, from the first byte on, and gives their number. A refusal leaves the bytes as they
+// were.
+pub fn write(
+    n: usize,
+    weights: &[Weight],
+    rows: &[Parity],
+    gates: &mut [u8],
+) -> Result<usize, Refusal>
     ensures { WriteList n weights.now rows.now gates.old gates.new result }
 {
-    let fault = write_fault(n, weights, rows, gates.len());
-    if fault != 0 {
-        return Written::Refused {
-            number: fault,
-            place: 0,
-        };
-    }
-    Written::Done {
-        count: write_sound(n, weights, rows, gates),
-    }
+    let (weights, rows) = check_write(n, weights, rows, gates.len())?;
+    Ok(write_sound(n, weights, rows, gates))
 }
 
 // The gates, and their number. Internal: the caller has found no fault. It is public for the trim, which has proved its weights and rows
 // sound.
-pub fn write_sound(n: usize, weights: &[Weight], rows: &[Parity], gates: &mut [u8]) -> usize
+pub fn write_sound(
+    n: usize,
+    weights: &[Weight; TABLE_BYTES],
+    rows: &[Parity; MAX_WIRES],
+    gates: &mut [u8],
+) -> usize
     requires { Writable n weights.now rows.now (length gates.old) }
     ensures { WroteBytes n weights.now rows.now gates.old gates.new result }
 {
-    let phases = write_phases(gates, n, weights);
-    write_rows(gates, phases, n, copied(rows))
+    let mut to = Writer::new(gates);
+    write_phases(&mut to, n, weights);
+    write_rows(&mut to, n, rows);
+    to.count
 }

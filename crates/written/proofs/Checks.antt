@@ -1,5 +1,5 @@
 -- The checks of a call that writes: no fault exactly where everything is sound and there is room; and one law for each way that
--- `synth::faults::write_fault` takes through them.
+-- `synth::faults::check_write` takes through them.
 use mathlib.Core.List.{List}
 use mathlib.Core.Logic.{◌≢◌}
 use mathlib.Core.Path.{ap, sym, ◌∙◌, ◌≡◌}

@@ -1,6 +1,6 @@
 -- The spelling of a weight: phase gates alone, at most two, that add the weight at the parity their wire holds. One of them is T or T
 -- dagger where the weight is odd, none where it is even; none is Z. Each is a test, computed at each weight; but for the match of
--- `synth::spelling::kinds_for` nothing else looks at a spelling.
+-- `synth::spelling::spell_out` nothing else looks at a spelling.
 use mathlib.Core.Bool.{Bool, ◌&&◌, false, true}
 use mathlib.Core.List.{List, [], map, ◌∷◌}
 use mathlib.Core.Logic.{◌≢◌}

@@ -1,16 +1,13 @@
 -- Each way out of `write` by its law.
-use native.Mathlib.Omega.{arith}
+use borrow.Author.Rules.{rules}
 use Rattle.synth.proofs.WriteWays.{may_write, write_done, write_refused}
 use Rattle.synth.proofs.write.Goals as goal
 
-pub returns-then-fault-ne0 : goal.returns-then-fault-ne0
-returns-then-fault-ne0 c =
-    write_refused _ _ _ _ _ c.write_fault-fault.ensures (omega arith)
+pub returns-in_err-weights : goal.returns-in_err-weights
+returns-in_err-weights c = write_refused _ _ _ _ _ c.in_err-weights.field-0.0 (search rules) c.in_err-weights.ensures.fault
 
 pub write_sound-requires : goal.write_sound-requires
-write_sound-requires c =
-    may_write _ _ _ c.args.gates.now _ c.write_fault-fault.ensures (omega arith)
+write_sound-requires c = may_write _ _ _ c.args.gates.now c.in_ok-weights.ensures.fault c.in_ok-weights.ensures.same
 
 pub returns : goal.returns
-returns c =
-    write_done _ _ _ _ _ c.write_fault-fault.ensures (omega arith) _ _ c.write_sound.ensures
+returns c = write_done _ _ _ _ c.in_ok-weights.ensures.fault c.in_ok-weights.ensures.same c.write_sound.ensures

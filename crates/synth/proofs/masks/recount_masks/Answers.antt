@@ -1,21 +1,19 @@
 -- The masks are recounted from the front, where they lie.
 use native.Mathlib.Omega.{arith}
-use Rattle.synth.proofs.RowTurns.{recount_first, recount_last, recount_next}
+use borrow.Author.Rules.{rules}
+use Rattle.synth.proofs.RowTurns.{recount_first, recount_last, recount_named, recount_other}
 use Rattle.synth.proofs.masks.recount_masks.Goals as goal
+use Rattle.synth.proofs.masks.recount_masks.Goals.{else-names, then-names}
 
-pub loop-i-init : goal.loop-i-init
-loop-i-init c = recount_first c.requires.1
+pub loop-m-init : goal.loop-m-init
+loop-m-init c = recount_first _ _ _
 
-pub cell_at-m-requires : goal.cell_at-m-requires
-cell_at-m-requires c = omega (arith, c.loop-i.invariant.long)
-
-pub put_cell-requires : goal.put_cell-requires
-put_cell-requires c = omega (arith, c.loop-i.invariant.long)
-
-pub loop-i-preserved : goal.loop-i-preserved
-loop-i-preserved c =
-    recount_next c.loop-i.invariant (omega arith) c.cell_at-m.ensures c.only_if.ensures c.put_cell.ensures
+pub loop-m-preserved : goal.loop-m-preserved
+loop-m-preserved c =
+    elim c.if-names.branch [
+      | then-names w ↦ recount_named c.loop-m.invariant (omega arith) (search rules) w.masks-is
+      | else-names w ↦ recount_other c.loop-m.invariant (omega arith) (search rules) w.masks-is
+    ]
 
 pub returns : goal.returns
-returns c =
-    recount_last c.loop-i.invariant c.requires.1 (omega arith)
+returns c = recount_last c.loop-m.invariant (omega arith)

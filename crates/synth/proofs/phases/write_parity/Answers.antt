@@ -5,28 +5,28 @@ use Rattle.synth.proofs.PhaseTurns.{parity-none, parity-room, parity-stored, spe
 use Rattle.synth.proofs.phases.write_parity.Goals as goal
 
 pub returns-then-v-eq0 : goal.returns-then-v-eq0
-returns-then-v-eq0 c = parity-none _ _ _ _ _ (omega arith)
+returns-then-v-eq0 c = parity-none _ _ _ _ (omega arith)
 
 pub lowest-t-requires : goal.lowest-t-requires
 lowest-t-requires c =
     let some : c.args.v ≢ 0 = omega arith in
     (λ e. some (c.requires.none e), c.requires.inside)
 
-pub push_cnots-on-requires : goal.push_cnots-on-requires
-push_cnots-on-requires c =
+pub push_cnots-requires : goal.push_cnots-requires
+push_cnots-requires c =
     (c.requires.few, parity-room c.requires (omega arith) c.lowest-t.ensures.0 c.unit.ensures)
 
-pub spell_out-spelled-requires : goal.spell_out-spelled-requires
-spell_out-spelled-requires c =
-    (c.requires.small, spell_room c.requires (omega arith) c.lowest-t.ensures.0 c.unit.ensures c.push_cnots-on.ensures)
+pub spell_out-requires : goal.spell_out-requires
+spell_out-requires c =
+    (c.requires.small, spell_room c.requires (omega arith) c.lowest-t.ensures.0 c.unit.ensures c.push_cnots.ensures)
 
-pub push_cnots-requires : goal.push_cnots-requires
-push_cnots-requires c = (
+pub push_cnots-requires-2 : goal.push_cnots-requires-2
+push_cnots-requires-2 c = (
   c.requires.few,
-  undo_room c.requires (omega arith) c.lowest-t.ensures.0 c.unit.ensures c.push_cnots-on.ensures c.spell_out-spelled.ensures,
+  undo_room c.requires (omega arith) c.lowest-t.ensures.0 c.unit.ensures c.push_cnots.ensures c.spell_out.ensures,
 )
 
 pub returns : goal.returns
 returns c =
-    parity-stored c.requires (omega arith) c.lowest-t.ensures.0 c.unit.ensures c.push_cnots-on.ensures c.spell_out-spelled.ensures
-    c.push_cnots.ensures
+    parity-stored c.requires (omega arith) c.lowest-t.ensures.0 c.unit.ensures c.push_cnots.ensures c.spell_out.ensures
+    c.push_cnots-2.ensures
