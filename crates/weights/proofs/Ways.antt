@@ -1,10 +1,8 @@
--- No fault, exactly where a call brings and lends what it must: what an entry knows where it goes on to write, and what Laws says of its
--- reply.
+-- No fault, exactly where a call brings and lends what it must.
 use mathlib.Core.List.{List}
 use mathlib.Core.Logic.{◌↔◌}
-use mathlib.Core.Path.{sym, ◌∙◌, ◌≡◌}
+use mathlib.Core.Path.{◌≡◌}
 use Prim.Native.Nat.{ℕ, ◌≤◌}
-use lib.ListN.{length}
 use Rattle.circuit.proofs.Judging.{lent_pass, lent_well, or_pass, or_well}
 use Rattle.circuit.proofs.TableRule.{weights_passes}
 use Rattle.circuit.specs.Faults.{lent_fault, or_else}
@@ -43,12 +41,3 @@ coefficients_passes n w l q c = (
   λ e. let a = (weights_passes n (lists_fault l q c) w).0 e in (a.0, (lists_passes l q c).0 a.1, a.2),
   λ s. (weights_passes n (lists_fault l q c) w).1 (s.0, (lists_passes l q c).1 s.1, s.2),
 )
-
--- ---- what the writers need, where the fault f that was found is none
-
-pub odd_fits : (n : ℕ) (w m : List ℕ) (f : ℕ) → f ≡ odd_set_fault n w (length m) → f ≡ 0 → length w ≡ length m
-odd_fits n w m f e z = let a = (odd_set_passes n w (length m)).0 (sym e ∙ z) in a.2.long ∙ sym a.1
-
-pub lists_fit : (n : ℕ) (w l q c : List ℕ) (f : ℕ) → f ≡ coefficients_fault n w (length l) (length q) (length c) → f ≡ 0
-    → (length w ≡ table_bytes) × Lengths (length l) (length q) (length c)
-lists_fit n w l q c f e z = let a = (coefficients_passes n w (length l) (length q) (length c)).0 (sym e ∙ z) in (a.2.long, a.1)

@@ -4,30 +4,28 @@
 
 ghost use Rattle.std.specs.Prelude.{◌≡◌, length};
 ghost use Rattle.circuit.specs.OddSet.{odd_set};
+ghost use Rattle.circuit.specs.Told.{told};
 ghost use Rattle.weights.specs.Entry.{OddSetOf, CoefficientsOf};
 
 pub mod faults;
 pub mod lists;
 pub mod sums;
 
-use circuit::Reply;
-use circuit::limits::{Coefficient, Mark, Weight};
-use faults::{coefficients_fault, odd_set_fault};
+use circuit::faults::Refusal;
+use circuit::limits::{Coefficient, MAX_WEIGHT, Mark, TABLE_BYTES, Weight};
+use faults::check_lists;
+use judges::faults::check_lent;
+use judges::table_faults::check_call;
 use lists::put_lists;
 
 // The odd set of weights. A refusal leaves the marks as they were.
-pub fn odd_set(n: usize, weights: &[Weight], marks: &mut [Mark]) -> Reply
-    ensures { OddSetOf n weights.now marks.old marks.new result }
+pub fn odd_set(n: usize, weights: &[Weight], marks: &mut [Mark]) -> Result<(), Refusal>
+    ensures { OddSetOf n weights.now marks.old marks.new (told result) }
 {
-    let fault = odd_set_fault(n, weights, marks.len());
-    if fault != 0 {
-        return Reply::Refused {
-            number: fault,
-            place: 0,
-        };
-    }
-    put_odd_set(weights, marks);
-    Reply::Done
+    let lent = check_lent(marks.len(), TABLE_BYTES);
+    let w = check_call(n, lent, MAX_WEIGHT, weights)?;
+    put_odd_set(w, marks);
+    Ok(())
 }
 
 // The coefficients of weights: l(i) at i, q(i, j) at N j + i, c(i, j, k) at N N k + N j + i, for wires i < j < k below n, and 0 elsewhere;
@@ -38,26 +36,21 @@ pub fn coefficients(
     l: &mut [Coefficient],
     q: &mut [Coefficient],
     c: &mut [Coefficient],
-) -> Reply
+) -> Result<(), Refusal>
     ensures { CoefficientsOf n weights.now l.old q.old c.old
-        l.new q.new c.new result }
+        l.new q.new c.new (told result) }
 {
-    let fault = coefficients_fault(n, weights, l.len(), q.len(), c.len());
-    if fault != 0 {
-        return Reply::Refused {
-            number: fault,
-            place: 0,
-        };
-    }
-    // Without a fault each is as long as its array.
+    let lent = check_lists(l.len(), q.len(), c.len());
+    let w = check_call(n, lent, MAX_WEIGHT, weights)?;
+    // Without a fault each list is as long as its array.
     put_lists(
         n,
-        weights.as_array().unwrap(),
+        w,
         l.as_mut_array().unwrap(),
         q.as_mut_array().unwrap(),
         c.as_mut_array().unwrap(),
     );
-    Reply::Done
+    Ok(())
 }
 
 // Internal: the caller lends as many marks as weights. It is public for the trim, which has proved its weights sound.
