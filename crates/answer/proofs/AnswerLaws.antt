@@ -6,6 +6,7 @@ use Prim.Native.Nat.{◌+◌, ◌<◌, ◌≤◌, suc, zero, ℕ}
 use native.Mathlib.Omega.{arith}
 use lib.ListN.{drop, length, take}
 use lib.Seq.{take-append_seam}
+use Rattle.std.specs.Prelude.{Err, Ok, Result}
 use Rattle.circuit.proofs.Bytes.{gates_in, gates_of_bytes, length-bytes}
 use Rattle.circuit.proofs.GateKinds.{known_kind, t_is_odd}
 use Rattle.circuit.proofs.Judging.{call_number, call_told, refuse_done, short_pass}
@@ -16,11 +17,11 @@ use Rattle.circuit.specs.Faults.{same_wire, short_fault}
 use Rattle.circuit.specs.Gate.{Gate, bytes_of, gate, gates_of, kind_of, t_gates}
 use Rattle.circuit.specs.Lent.{KeptFrom}
 use Rattle.circuit.specs.Limits.{max_gates, max_wires, max_written_gates}
-use Rattle.circuit.specs.Replies.{number_of, place_of}
-use Rattle.circuit.specs.Replies.{Reply}
+use Rattle.circuit.specs.Replies.{Reply, number_of, place_of}
 use Rattle.circuit.specs.Replies as reply
-use Rattle.circuit.specs.Gate.{Kind}
-use Rattle.circuit.specs.Gate.{Cnot, Phase, Unknown}
+use Rattle.circuit.specs.Told.{number}
+use Rattle.circuit.specs.declared.faults.Refusal.{Refusal}
+use Rattle.circuit.specs.Gate.{Cnot, Kind, Phase, Unknown}
 use Rattle.written.proofs.Laws.{rack_runs_wrote}
 use Rattle.written.proofs.Checks.{longest}
 use Rattle.written.specs.Spelling.{RackRuns}
@@ -33,13 +34,12 @@ use Rattle.text.specs.Written.{gate_lines, wires_line}
 use Rattle.answer.proofs.AnswerWays.{little_room}
 use Rattle.answer.specs.Entry.{AnswerText, OutLeft, WritesPrinted}
 use Rattle.answer.specs.Printed.{Prints, PrintsGates, PrintsTrim}
-use Rattle.answer.specs.declared.Answered.{Answered}
-use Rattle.answer.specs.declared.Answered.TheVariants.{Done, Refused}
 
 -- ---- the first bytes decide
 
 -- a call with these bytes alone replies and leaves what one with the whole text may
-pub first_bytes_decide_reply : (t out out' : List ℕ) (r : Answered) → AnswerText (take text_bytes t) out out' r → AnswerText t out out' r
+pub first_bytes_decide_reply : (t out out' : List ℕ) (r : Result ℕ Refusal) → AnswerText (take text_bytes t) out out' r
+    → AnswerText t out out' r
 first_bytes_decide_reply t out out' r a =
     record { reply = a.reply; out_left = rw (first_bytes_decide t) a.out_left }
 
@@ -81,21 +81,21 @@ module _ (t out out' : List ℕ) (count : ℕ) where
         kept = kept;
       }
 
-  pub done_prints : AnswerText t out out' (Done count) → Printed t out out' count
+  pub done_prints : AnswerText t out out' (Ok count) → Printed t out out' count
   done_prints a =
       written (short_pass (length out) reply_bytes (refuse_done (short_fault (length out) reply_bytes) 0 reply.Done (sym a.reply)).0)
       a.out_left
 
   -- after a refusal they are as they were, and only too little room is refused, with 8 at place 0
-  pub refusal_leaves : (number place : ℕ) → AnswerText t out out' (Refused number place)
-      → (out' ≡ out) × (length out < reply_bytes) × (number ≡ lent_output) × (place ≡ 0)
-  refusal_leaves number place a =
+  pub refusal_leaves : (refusal : Refusal) → AnswerText t out out' (Err refusal)
+      → (out' ≡ out) × (length out < reply_bytes) × (number refusal.fault ≡ lent_output) × (refusal.place ≡ 0)
+  refusal_leaves refusal a =
       let f : ℕ = short_fault (length out) reply_bytes in
       let some = call_number f (sym a.reply) in
       let c = call_told f in
-      let number_is : number ≡ f = ap number_of a.reply ∙ c.0 in
+      let number_is : number refusal.fault ≡ f = ap number_of a.reply ∙ c.0 in
       let little = little_room (length out) number_is some in
-      (left number some a.out_left, little.0, little.1, ap place_of a.reply ∙ c.1)
+      (left (number refusal.fault) some a.out_left, little.0, little.1, ap place_of a.reply ∙ c.1)
     where
       left : (f : ℕ) → f ≢ 0 → OutLeft f 0 (read_text t) out out' → out' ≡ out
       left zero h e = absurd (h refl)

@@ -7,31 +7,27 @@ use native.Mathlib.Decide.{dec_le}
 use native.Mathlib.Omega.{arith}
 use lib.ListN.{length, length-take, take}
 use borrow.Author.Tests.{lt-leb}
+use Rattle.std.specs.Prelude.{Err, Ok, Result}
 use Rattle.circuit.proofs.Judging.{or_well, passes_list_call, short_well}
-use Rattle.circuit.proofs.TableRule.{call_done, call_refusal}
 use Rattle.circuit.specs.Faults.{first_fault, lent_output, list_call_fault, refuse, short_fault}
 use Rattle.circuit.specs.Gate.{gates_of}
 use Rattle.circuit.specs.Lent.{front_gates}
 use Rattle.circuit.specs.Limits.{gate_bytes, log_cells, max_list_bytes, write_bytes}
-use Rattle.circuit.specs.Replies.{number_of}
-use Rattle.circuit.specs.Replies.{Reply}
-use Rattle.circuit.specs.Replies as reply
+use Rattle.circuit.specs.Replies.{Done, Reply, number_of}
+use Rattle.circuit.specs.Told.{number, told}
+use Rattle.circuit.specs.declared.faults.Refusal.{Refusal}
 use Rattle.text.proofs.TextLaws.{circuit_said, fault_said_lem}
 use Rattle.text.specs.Entry.{ReadText}
 use Rattle.text.specs.Limits.{reply_bytes}
 use Rattle.lines.specs.Placed.{Writes}
 use Rattle.text.specs.Text.{Sayable, Text, circuit, read_text}
 use Rattle.text.specs.Written.{refused_line}
-use Rattle.text.specs.declared.TextReply.{TextReply}
-use Rattle.text.specs.declared.TextReply.TheVariants as read
+use Rattle.text.specs.declared.Circuit.{Circuit}
 use Rattle.trimmed.specs.declared.Counts.{Counts}
 use Rattle.trimmer.proofs.Laws.{counted as bytes_counted}
-use Rattle.trimmer.specs.Entry.{DoneWith, TrimLeft, TrimList, counts_of, told, trim_lent, verdict}
-use Rattle.trimmer.specs.declared.TrimReply.{TrimReply}
-use Rattle.trimmer.specs.declared.TrimReply.TheVariants as trim
+use Rattle.trimmer.specs.Entry.{DoneWith, TrimLeft, TrimList, counts_of, trim_lent, verdict}
 use Rattle.answer.specs.Entry.{AnswerText, OutLeft, WritesPrinted}
 use Rattle.answer.specs.Printed.{PrintsGates, trim_lines}
-use Rattle.answer.specs.declared.Answered.TheVariants.{Done, Refused}
 
 -- ---- the trim of a circuit that a text says, with room lent for D and the log
 
@@ -40,6 +36,9 @@ pub record Lent (n : ℕ) (g list log : List ℕ) : Type 0 where
   pub said : Sayable n g
   pub room : write_bytes ≤ length list
   pub log_room : log_cells ≤ length log
+
+pub lends : {n : ℕ} {g list log : List ℕ} → Sayable n g → write_bytes ≤ length list → log_cells ≤ length log → Lent n g list log
+lends said room log_room = record { said = said; room = room; log_room = log_room }
 
 module _ {n : ℕ} {g list log : List ℕ} (lent : Lent n g list log) where
   -- it is judged by its gates alone
@@ -51,15 +50,15 @@ module _ {n : ℕ} {g list log : List ℕ} (lent : Lent n g list log) where
   judged : verdict n g (length list) (length log) ≡ first_fault n 0 (gates_of g)
   judged = ap (λ (f : ℕ). refuse f 0 (first_fault n 0 (gates_of g))) no_fault
 
-  module _ {list' log' : List ℕ} {r : TrimReply} (t : TrimList n g list log list' log' r) where
+  module _ {list' log' : List ℕ} {r : Result Counts Refusal} (t : TrimList n g list log list' log' r) where
     by_gates : told r ≡ first_fault n 0 (gates_of g)
     by_gates = t.reply ∙ judged
 
-    module _ {counts : Counts} (is : r ≡ trim.Done counts) where
-      done : (first_fault n 0 (gates_of g) ≡ reply.Done) × DoneWith n g list log list' log' counts
+    module _ {counts : Counts} (is : r ≡ Ok counts) where
+      done : (first_fault n 0 (gates_of g) ≡ Done) × DoneWith n g list log list' log' counts
       done = (
         sym by_gates ∙ ap told is,
-        subst (λ (x : TrimReply). TrimLeft (number_of (told x)) (counts_of x) n g list log list' log') is t.left,
+        subst (λ (x : Result Counts Refusal). TrimLeft (number_of (told x)) (counts_of x) n g list log list' log') is t.left,
       )
 
       -- D stands within what was lent
@@ -93,26 +92,25 @@ module _ {n : ℕ} {g list log : List ℕ} (lent : Lent n g list log) where
             w,
           )
 
-    pub gate_printed : {number place : ℕ} {was left : List ℕ} {next : ℕ} → r ≡ trim.Refused number place
-        → Writes was 0 (refused_line number place) left next → WritesPrinted (circuit n g) was left next
-    gate_printed {number} {place} is w = (
-      refused_line number place,
-      subst (λ (v : Reply). PrintsGates v n (gates_of g) (refused_line number place)) (sym (ap told is) ∙ by_gates) refl,
+    pub gate_printed : {refusal : Refusal} {line was left : List ℕ} {next : ℕ} → r ≡ Err refusal
+        → line ≡ refused_line (number refusal.fault) refusal.place → Writes was 0 line left next → WritesPrinted (circuit n g) was left next
+    gate_printed {refusal} {line} is e w = (
+      line,
+      subst (λ (v : Reply). PrintsGates v n (gates_of g) line) (sym (ap told is) ∙ by_gates) e,
       w,
     )
 
 -- ---- the text, read with room lent for every list
 
-module _ {t gates gates' : List ℕ} {r : TextReply} (p : ReadText t gates gates' r) {was left : List ℕ} {next : ℕ} where
-  pub circuit_printed : {n m : ℕ} → r ≡ read.Done n m → WritesPrinted (circuit n (take (gate_bytes * m) gates')) was left next
+module _ {t gates gates' : List ℕ} {r : Result Circuit Refusal} (p : ReadText t gates gates' r) {was left : List ℕ} {next : ℕ} where
+  pub circuit_printed : {c : Circuit} → r ≡ Ok c → WritesPrinted (circuit c.wires (take (gate_bytes * c.gates) gates')) was left next
       → WritesPrinted (read_text t) was left next
   circuit_printed is w = subst (λ (x : Text). WritesPrinted x was left next) (sym (circuit_said p is).says) w
 
-  pub fault_printed : {number place : ℕ} → max_list_bytes ≤ length gates → r ≡ read.Refused number place
-      → Writes was 0 (refused_line number place) left next
-      → WritesPrinted (read_text t) was left next
-  fault_printed {number} {place} room is w =
-      subst (λ (x : Text). WritesPrinted x was left next) (sym (fault_said_lem p room is)) (refused_line number place, refl, w)
+  pub fault_printed : {refusal : Refusal} {line : List ℕ} → max_list_bytes ≤ length gates → r ≡ Err refusal
+      → line ≡ refused_line (number refusal.fault) refusal.place → Writes was 0 line left next → WritesPrinted (read_text t) was left next
+  fault_printed {refusal} {line} room is e w =
+      subst (λ (x : Text). WritesPrinted x was left next) (sym (fault_said_lem p room is)) (line, e, w)
 
 -- ---- the entry
 
@@ -123,14 +121,3 @@ little_room lent {f} e h = go (dec_le reply_bytes lent)
     go : Dec (reply_bytes ≤ lent) → (lent < reply_bytes) × (f ≡ lent_output)
     go (yes l) = absurd (h (e ∙ short_well lent reply_bytes l))
     go (no l) = (omega arith, e ∙ simp (lt-leb reply_bytes lent (omega arith)))
-
-module _ (t out : List ℕ) {f : ℕ} (judged : f ≡ short_fault (length out) reply_bytes) where
-  pub too_little_room : f ≢ 0 → AnswerText t out out (Refused f 0)
-  too_little_room h = record { reply = call_refusal f (short_fault (length out) reply_bytes) judged h; out_left = left f h }
-    where
-      left : (f : ℕ) → f ≢ 0 → OutLeft f 0 (read_text t) out out
-      left zero h = absurd (h refl)
-      left (suc f) h = refl
-
-  pub answered : f ≡ 0 → (out' : List ℕ) (count : ℕ) → WritesPrinted (read_text t) out out' count → AnswerText t out out' (Done count)
-  answered clear out' count w = record { reply = call_done f (short_fault (length out) reply_bytes) judged clear; out_left = w }

@@ -13,36 +13,22 @@ ghost use Rattle.text.specs.Text.{Sayable, circuit, read_text};
 ghost use Rattle.answer.specs.Entry.{AnswerText, WritesPrinted};
 ghost use Rattle.answer.specs.Printed.{trim_lines};
 
+use circuit::faults::Refusal;
 use circuit::limits::{GATE_BYTES, LOG_CELLS, MAX_LIST_BYTES, MoveCell, WRITE_BYTES};
-use judges::faults::short_fault;
-use lines::{put_counts, put_gates, put_refused, put_wires};
+use judges::faults::check_room;
+use lines::{counts_line, put, put_gates, refused_line, wires_line};
 use text::limits::REPLY_BYTES;
-use text::{TextReply, read_text};
+use text::read_text;
 use trimmed::Counts;
-use trimmer::{TrimReply, trim};
+use trimmer::trim;
 
-#[derive(Drop)]
-pub enum Answered {
-    // The lent bytes start with the reply, which has so many.
-    Done { bytes: usize },
-    // Document 01's number and place of the fault: less room than the longest reply needs.
-    Refused { number: u8, place: usize },
-}
-
-// Writes the reply to a text, from the start of what is lent. A refusal leaves all as it was.
-pub fn answer(text: &[u8], out: &mut [u8]) -> Answered
+// Writes the reply to a text, from the start of what is lent, and gives how many bytes it has. Refused where there is less room than the
+// longest reply needs; all is then as it was.
+pub fn answer(text: &[u8], out: &mut [u8]) -> Result<usize, Refusal>
     ensures { AnswerText text.now out.old out.new result }
 {
-    let fault = short_fault(out.len(), REPLY_BYTES);
-    if fault != 0 {
-        return Answered::Refused {
-            number: fault,
-            place: 0,
-        };
-    }
-    Answered::Done {
-        bytes: put_reply(text, out),
-    }
+    check_room(out.len(), REPLY_BYTES)?;
+    Ok(put_reply(text, out))
 }
 
 // The fault of a text, or what its circuit gives.
@@ -52,8 +38,8 @@ fn put_reply(text: &[u8], out: &mut [u8]) -> usize
 {
     let mut gates = [0u8; MAX_LIST_BYTES];
     match read_text(text, &mut gates) {
-        TextReply::Done { n, gates: m } => put_circuit(n, &gates[..GATE_BYTES * m], out),
-        TextReply::Refused { number, place } => put_refused(number, place, out, 0),
+        Ok(read) => put_circuit(read.wires, &gates[..GATE_BYTES * read.gates], out),
+        Err(refusal) => put(&refused_line(refusal), out),
     }
 }
 
@@ -65,8 +51,8 @@ fn put_circuit(n: usize, gates: &[u8], out: &mut [u8]) -> usize
     let mut list = [0u8; WRITE_BYTES];
     let mut log = [0 as MoveCell; LOG_CELLS];
     match trim(n, gates, &mut list, &mut log) {
-        TrimReply::Done(counts) => put_trimmed(n, counts, &list[..GATE_BYTES * counts.gates], out),
-        TrimReply::Refused { number, place } => put_refused(number, place, out, 0),
+        Ok(counts) => put_trimmed(n, counts, &list[..GATE_BYTES * counts.gates], out),
+        Err(of_gate) => put(&refused_line(of_gate), out),
     }
 }
 
@@ -75,7 +61,14 @@ fn put_trimmed(n: usize, counts: Counts, gates: &[u8], out: &mut [u8]) -> usize
     requires { wires_line_bytes + counts_line_bytes + gate_line_bytes * (length gates.now / gate_bytes) ≤ length out.old }
     ensures { Writes out.old 0 (trim_lines n counts (gates_of gates.now)) out.new result }
 {
-    let a = put_wires(n, out, 0);
-    let b = put_counts(counts.tin, counts.odd, counts.tout, counts.moves, out, a);
-    put_gates(gates, out, b)
+    let Counts {
+        tin,
+        odd,
+        tout,
+        moves,
+        ..
+    } = counts;
+    let a = put(&wires_line(n), out);
+    let b = a + put(&counts_line(tin, odd, tout, moves), &mut out[a..]);
+    b + put_gates(gates, &mut out[b..])
 }

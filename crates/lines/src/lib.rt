@@ -6,7 +6,7 @@ ghost use Rattle.std.specs.Prelude.{◌≡◌, ◌*◌, ◌/◌, ◌≤◌, leng
 ghost use Rattle.circuit.specs.Gate.{gate_of, gates_of};
 ghost use Rattle.circuit.specs.Limits.{gate_bytes};
 ghost use Rattle.circuit.specs.Told.{number};
-ghost use Rattle.text.specs.Limits.{gate_line_bytes, refused_line_bytes};
+ghost use Rattle.text.specs.Limits.{gate_line_bytes};
 ghost use Rattle.text.specs.Written.{counts_line, gate_line, gate_lines, refused_line, wires_line};
 ghost use Rattle.lines.specs.Placed.{Writes};
 
@@ -67,14 +67,6 @@ pub fn put_gates(list: &[u8], out: &mut [u8]) -> usize
         out[at..at + GATE_LINE_BYTES].copy_from_slice(&gate_line(gate));
     }
     GATE_LINE_BYTES * gates.len()
-}
-
-// The line of a refusal; gives how many bytes it has.
-pub fn put_refused(refusal: Refusal, out: &mut [u8]) -> usize
-    requires { refused_line_bytes ≤ length out.old }
-    ensures { Writes out.old 0 (refused_line (number refusal.fault) refusal.place) out.new result }
-{
-    put(&refused_line(refusal), out)
 }
 
 // Bytes as they are; gives their number.

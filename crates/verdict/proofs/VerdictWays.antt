@@ -4,58 +4,58 @@ use mathlib.Core.Path.{◌∙◌, ◌≡◌, ap, subst}
 use Prim.Native.Nat.{◌*◌, ◌≤◌, ℕ}
 use native.Mathlib.Nat.{zero-add}
 use lib.ListN.{length, take}
+use Rattle.std.specs.Prelude.{Err, Ok, Result}
 use Rattle.circuit.specs.Limits.{gate_bytes, max_list_bytes}
+use Rattle.circuit.specs.Told.{number}
+use Rattle.circuit.specs.declared.faults.Refusal.{Refusal}
 use Rattle.compare.specs.Entry.{ComparesLists}
 use Rattle.compare.specs.declared.Compared.{Compared}
 use Rattle.lines.specs.Placed.{Writes}
 use Rattle.text.proofs.TextLaws.{circuit_said, fault_said_lem}
 use Rattle.text.specs.Entry.{ReadText}
 use Rattle.text.specs.Text.{Text, circuit, read_text}
-use Rattle.text.specs.declared.TextReply.{TextReply}
-use Rattle.text.specs.declared.TextReply.TheVariants as read
 use Rattle.text.specs.Written.{refused_line}
-use Rattle.verdict.specs.Verdicts.{Prints, VerdictOn, compared, first_faulty, line_of, said_of, second_faulty}
+use Rattle.text.specs.declared.Circuit.{Circuit}
+use Rattle.verdict.specs.Verdicts.{Prints, VerdictOn, compared, first_faulty, line_of, named_of, second_faulty}
+use Rattle.verdict.specs.declared.Named.{Named}
+use Rattle.verdict.specs.declared.Named.TheVariants.{First, Second}
 use Rattle.verdict.specs.declared.Verdict.{Verdict}
-use Rattle.verdict.specs.declared.Verdict.TheVariants.{First, Second}
-
--- a line written from the start is printed, and its bytes are counted
-prints_line : {line was left : List ℕ} {count : ℕ} (said : ℕ → Verdict) {v : Verdict} → Writes was 0 line left count → v ≡ said count
-    → Prints line said was left v
-prints_line {line} said w e = record { tells = e ∙ ap said (w.onward ∙ zero-add (length line)); stands = w.written }
 
 -- ---- the texts
 
-module _ {t gates gates' : List ℕ} {r : TextReply} (p : ReadText t gates gates' r) {was left : List ℕ} {v : Verdict} where
+module _ {t gates gates' : List ℕ} {r : Result Circuit Refusal} (p : ReadText t gates gates' r) {was left : List ℕ} where
   -- the first is a circuit, or faulty
   module _ {u : Text} where
-    pub first_read : {n m : ℕ} → r ≡ read.Done n m → VerdictOn (circuit n (take (gate_bytes * m) gates')) u was left v
+    pub first_read : {c : Circuit} {v : Verdict} → r ≡ Ok c → VerdictOn (circuit c.wires (take (gate_bytes * c.gates) gates')) u was left v
         → VerdictOn (read_text t) u was left v
     first_read is w = rw (circuit_said p is).says w
 
-    pub first_refused : {number place count : ℕ} → max_list_bytes ≤ length gates → r ≡ read.Refused number place
-        → Writes was 0 (refused_line number place) left count → v ≡ First count → VerdictOn (read_text t) u was left v
-    first_refused room is w e = rw (fault_said_lem p room is) (first_faulty (prints_line First w e))
+    pub first_refused : {refusal : Refusal} {line : List ℕ} {v : Verdict} → max_list_bytes ≤ length gates → r ≡ Err refusal
+        → line ≡ refused_line (number refusal.fault) refusal.place → Prints line First was left v → VerdictOn (read_text t) u was left v
+    first_refused room is e w = rw (fault_said_lem p room is) (first_faulty (rw e at w))
 
   -- the second is, beside a circuit
   module _ {n : ℕ} {first : List ℕ} where
-    pub second_read : {m k : ℕ} → r ≡ read.Done m k → VerdictOn (circuit n first) (circuit m (take (gate_bytes * k) gates')) was left v
+    pub second_read : {c : Circuit} {v : Verdict} → r ≡ Ok c
+        → VerdictOn (circuit n first) (circuit c.wires (take (gate_bytes * c.gates) gates')) was left v
         → VerdictOn (circuit n first) (read_text t) was left v
     second_read is w = rw (circuit_said p is).says w
 
-    pub second_refused : {number place count : ℕ} → max_list_bytes ≤ length gates → r ≡ read.Refused number place
-        → Writes was 0 (refused_line number place) left count → v ≡ Second count → VerdictOn (circuit n first) (read_text t) was left v
-    second_refused room is w e = rw (fault_said_lem p room is) (second_faulty (prints_line Second w e))
+    pub second_refused : {refusal : Refusal} {line : List ℕ} {v : Verdict} → max_list_bytes ≤ length gates → r ≡ Err refusal
+        → line ≡ refused_line (number refusal.fault) refusal.place → Prints line Second was left v
+        → VerdictOn (circuit n first) (read_text t) was left v
+    second_refused room is e w = rw (fault_said_lem p room is) (second_faulty (rw e at w))
 
 -- ---- two circuits
 
-pub same_wires : {n m : ℕ} {first second was left : List ℕ} {reply : Compared} {count : ℕ} {v : Verdict} (is : Compared) → n ≡ m
-    → ComparesLists n first second reply → reply ≡ is → Writes was 0 (line_of is) left count → v ≡ said_of is count
-    → VerdictOn (circuit n first) (circuit m second) was left v
-same_wires {n} {m} {first} {second} is e c told w said =
+pub same_wires : {n m : ℕ} {first second line was left : List ℕ} {reply : Result Compared Refusal} {named : Named} {v : Verdict}
+    (is : Result Compared Refusal) → n ≡ m → ComparesLists n first second reply → reply ≡ is → line ≡ line_of is → named ≡ named_of is
+    → Prints line named was left v → VerdictOn (circuit n first) (circuit m second) was left v
+same_wires {n} {m} {first} {second} is e c told says names w =
     rw (← e)
     (compared
     (record {
       reply = is;
-      compared = subst (λ (x : Compared). ComparesLists n first second x) told c;
-      prints = prints_line (said_of is) w said;
+      compared = subst (λ (x : Result Compared Refusal). ComparesLists n first second x) told c;
+      prints = rw (says, names) at w;
     }))

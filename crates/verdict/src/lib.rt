@@ -3,38 +3,35 @@
 #![tactic(auto)]
 
 ghost use Rattle.std.specs.Prelude.{◌≤◌, ◌≡◌, length};
+ghost use Rattle.circuit.specs.Told.{number};
 ghost use Rattle.text.specs.Limits.{refused_line_bytes};
 ghost use Rattle.text.specs.Text.{circuit, read_text};
-ghost use Rattle.verdict.specs.Verdicts.{VerdictOn, at_fault, bytes_of};
+ghost use Rattle.verdict.specs.Verdicts.{Prints, VerdictOn, at_fault};
 
+use circuit::faults::Fault;
 use circuit::limits::{GATE_BYTES, MAX_LIST_BYTES};
 use compare::{Compared, compare};
-use judges::faults::SECOND_LIST;
-use lines::{put, put_refused};
-use text::{TextReply, read_text};
+use lines::{put, refused_line};
+use text::read_text;
 
-#[derive(Clone, Copy)]
-pub enum Verdict {
-    // The lent bytes start with the line, which has so many: the circuits were compared.
-    Told { bytes: usize },
+// The texts that are to be named beside the line.
+#[derive(Clone, Copy, Debug, PartialEq, Eq)]
+pub enum Named {
+    // The circuits were compared.
+    Neither,
     // The line is the refusal of the first text, or of its gates.
-    First { bytes: usize },
+    First,
     // The line is the refusal of the second text, or of its gates.
-    Second { bytes: usize },
+    Second,
     // The circuits have different wire counts: there is no line.
-    Wires,
+    Both,
 }
 
-// How many bytes the line has; none where there is no line.
-pub fn line_bytes(said: Verdict) -> usize
-    ensures { result ≡ bytes_of said }
-{
-    match said {
-        Verdict::Told { bytes } => bytes,
-        Verdict::First { bytes } => bytes,
-        Verdict::Second { bytes } => bytes,
-        Verdict::Wires => 0,
-    }
+// What was written for two texts: the lent bytes start with the line, which has so many; none where there is no line.
+#[derive(Clone, Copy, Debug, PartialEq, Eq)]
+pub struct Verdict {
+    pub bytes: usize,
+    pub named: Named,
 }
 
 // Writes the line for two texts from the start of what is lent.
@@ -44,10 +41,8 @@ pub fn put_verdict(first: &[u8], second: &[u8], out: &mut [u8]) -> Verdict
 {
     let mut gates = [0u8; MAX_LIST_BYTES];
     match read_text(first, &mut gates) {
-        TextReply::Done { n, gates: m } => put_beside(n, &gates[..GATE_BYTES * m], second, out),
-        TextReply::Refused { number, place } => Verdict::First {
-            bytes: put_refused(number, place, out, 0),
-        },
+        Ok(read) => put_beside(read.wires, &gates[..GATE_BYTES * read.gates], second, out),
+        Err(refusal) => put_line(&refused_line(refusal), Named::First, out),
     }
 }
 
@@ -58,10 +53,8 @@ fn put_beside(n: usize, list: &[u8], second: &[u8], out: &mut [u8]) -> Verdict
 {
     let mut gates = [0u8; MAX_LIST_BYTES];
     match read_text(second, &mut gates) {
-        TextReply::Done { n: m, gates: k } => put_two(n, list, m, &gates[..GATE_BYTES * k], out),
-        TextReply::Refused { number, place } => Verdict::Second {
-            bytes: put_refused(number, place, out, 0),
-        },
+        Ok(read) => put_two(n, list, read.wires, &gates[..GATE_BYTES * read.gates], out),
+        Err(refusal) => put_line(&refused_line(refusal), Named::Second, out),
     }
 }
 
@@ -71,27 +64,35 @@ fn put_two(n: usize, first: &[u8], m: usize, second: &[u8], out: &mut [u8]) -> V
     ensures { VerdictOn (circuit n first.now) (circuit m second.now) out.old out.new result }
 {
     if n != m {
-        return Verdict::Wires;
+        return Verdict {
+            bytes: 0,
+            named: Named::Both,
+        };
     }
     match compare(n, first, second) {
-        Compared::Same => Verdict::Told {
-            bytes: put(b"same\n", out, 0),
-        },
-        Compared::Differ => Verdict::Told {
-            bytes: put(b"differ\n", out, 0),
-        },
-        Compared::Refused { number, place } => {
-            at_fault(number, put_refused(number, place, out, 0))
-        }
+        Ok(Compared::Same) => put_line(b"same\n", Named::Neither, out),
+        Ok(Compared::Differ) => put_line(b"differ\n", Named::Neither, out),
+        Err(refusal) => put_line(&refused_line(refusal), at_fault(refusal.fault), out),
     }
 }
 
-// Which list has the fault of that number.
-fn at_fault(number: u8, bytes: usize) -> Verdict
-    ensures { result ≡ at_fault number bytes }
+// A line, and what is named beside it.
+fn put_line(line: &[u8], named: Named, out: &mut [u8]) -> Verdict
+    requires { length line.now ≤ length out.old }
+    ensures { Prints line.now named out.old out.new result }
 {
-    if number == SECOND_LIST {
-        return Verdict::Second { bytes: bytes };
+    Verdict {
+        bytes: put(line, out),
+        named,
     }
-    Verdict::First { bytes: bytes }
+}
+
+// Which list has the fault that `compare` finds.
+fn at_fault(fault: Fault) -> Named
+    ensures { result ≡ at_fault (number fault) }
+{
+    match fault {
+        Fault::SecondList => Named::Second,
+        _ => Named::First,
+    }
 }

@@ -7,32 +7,31 @@ use Rattle.answer.proofs.put_reply.Goals as goal
 pub overflow_mul-gates : goal.overflow_mul-gates
 overflow_mul-gates c =
     let t = c.read_text in
-    let s = circuit_said t.ensures c.in-Done.is in
+    let s = circuit_said t.ensures c.in-Ok.is in
     record { fits = omega (arith, s.few) }
 
 pub slice_bounds-gates-end : goal.slice_bounds-gates-end
 slice_bounds-gates-end c =
     let t = c.read_text in
-    circuit_left (circuit_said t.ensures c.in-Done.is)
+    circuit_left (circuit_said t.ensures c.in-Ok.is)
 
 pub slice_bounds-put_circuit-end : goal.slice_bounds-put_circuit-end
 slice_bounds-put_circuit-end c =
     let t = c.read_text in
-    let s = circuit_said t.ensures c.in-Done.is in
+    let s = circuit_said t.ensures c.in-Ok.is in
     omega (arith, s.long)
 
 pub put_circuit-requires : goal.put_circuit-requires
 put_circuit-requires c =
-    let s = circuit_said c.read_text.ensures c.in-Done.is in
+    let s = circuit_said c.read_text.ensures c.in-Ok.is in
     (c.requires, s.sayable)
 
-pub returns-in-Done : goal.returns-in-Done
-returns-in-Done c =
+pub returns-in-Ok : goal.returns-in-Ok
+returns-in-Ok c =
     let t = c.read_text in
-    circuit_printed t.ensures c.in-Done.is c.put_circuit.ensures
+    circuit_printed t.ensures c.in-Ok.is c.put_circuit.ensures
 
-pub returns-in-Refused : goal.returns-in-Refused
-returns-in-Refused c =
+pub returns-in-Err : goal.returns-in-Err
+returns-in-Err c =
     let t = c.read_text in
-    fault_printed t.ensures (omega arith) c.in-Refused.is
-    c.put_refused.ensures
+    fault_printed t.ensures (omega arith) c.in-Err.is c.refused_line.ensures c.put.ensures
