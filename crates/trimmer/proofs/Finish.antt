@@ -32,6 +32,10 @@ pub record ReadC (n : ℕ) (bytes out log w rows : List ℕ) : Type 0 where
   pub trimmable : Trimmable n bytes out log
   pub reads : reading_lent w rows ≡ read_bytes n bytes
 
+pub read_c : {n : ℕ} {bytes out log w rows : List ℕ} → Trimmable n bytes out log → reading_lent w rows ≡ read_bytes n bytes
+    → ReadC n bytes out log w rows
+read_c t e = record { trimmable = t; reads = e }
+
 module _ {n : ℕ} {bytes out log w rows : List ℕ} (c : ReadC n bytes out log w rows) where
   w_is : w ≡ weights_of n (gates_of bytes)
   w_is = ap (λ (r : Reading). r.weights) c.reads
@@ -53,6 +57,10 @@ pub record MarkedC (n : ℕ) (bytes out log w rows first : List ℕ) : Type 0 wh
   pub read : ReadC n bytes out log w rows
   pub odd : first ≡ odd_set w
 
+pub marked_c : {n : ℕ} {bytes out log w rows first : List ℕ} → ReadC n bytes out log w rows → first ≡ odd_set w
+    → MarkedC n bytes out log w rows first
+marked_c c e = record { read = c; odd = e }
+
 module _ {n : ℕ} {bytes out log w rows first : List ℕ} (c : MarkedC n bytes out log w rows first) where
   first_is : first ≡ odd_set_of n (gates_of bytes)
   first_is = c.odd ∙ ap odd_set (w_is c.read)
@@ -69,6 +77,10 @@ module _ {n : ℕ} {bytes out log w rows first : List ℕ} (c : MarkedC n bytes 
 pub record MovedC (n : ℕ) (bytes out log w rows first : List ℕ) (k : ℕ) (last log' : List ℕ) : Type 0 where
   pub marked : MarkedC n bytes out log w rows first
   pub all : AllMade n first log k last log'
+
+pub moved_c : {n : ℕ} {bytes out log w rows first : List ℕ} {k : ℕ} {last log' : List ℕ} → MarkedC n bytes out log w rows first
+    → AllMade n first log k last log' → MovedC n bytes out log w rows first k last log'
+moved_c c all = record { marked = c; all = all }
 
 module _ {n : ℕ} {bytes out log w rows first : List ℕ} {k : ℕ} {last log' : List ℕ}
     (c : MovedC n bytes out log w rows first k last log') where
@@ -91,10 +103,15 @@ pub record WeighedC (n : ℕ) (bytes out log w rows first : List ℕ) (k : ℕ) 
   pub moved : MovedC n bytes out log w rows first k last log'
   pub new_is : new ≡ new_weights parities n w last
 
+pub weighed_c : {n : ℕ} {bytes out log w rows first : List ℕ} {k : ℕ} {last log' new : List ℕ}
+    → MovedC n bytes out log w rows first k last log' → new ≡ new_weights parities n w last
+    → WeighedC n bytes out log w rows first k last log' new
+weighed_c c e = record { moved = c; new_is = e }
+
 module _ {n : ℕ} {bytes out log w rows first : List ℕ} {k : ℕ} {last log' new : List ℕ}
     (c : WeighedC n bytes out log w rows first k last log' new) where
-  abbrev read_c : ReadC n bytes out log w rows
-  read_c = c.moved.marked.read
+  abbrev reading_c : ReadC n bytes out log w rows
+  reading_c = c.moved.marked.read
 
   abbrev C : List Gate
   C = gates_of bytes
@@ -104,11 +121,11 @@ module _ {n : ℕ} {bytes out log w rows first : List ℕ} {k : ℕ} {last log' 
       record {
         some = (marked_last c.moved).some;
         few = (marked_last c.moved).few;
-        room = read_c.trimmable.out_room;
+        room = reading_c.trimmable.out_room;
         weights_sound =
             rw c.new_is
             (new_weights_sound parities n (limits_suffice n (marked_last c.moved).few).0 w last (marked_last c.moved).sound);
-        rows_sound = sound_rows read_c;
+        rows_sound = sound_rows reading_c;
       }
 
   -- D is written, and all is counted
@@ -118,10 +135,10 @@ module _ {n : ℕ} {bytes out log w rows first : List ℕ} {k : ℕ} {last log' 
   finish {out'} {count} wrote counts tin odd tout moves gates =
       let D : List Gate = front_gates count out' in
       let list = wrote.list in
-      let accepted = read_c.trimmable.accepted in
+      let accepted = reading_c.trimmable.accepted in
       let w_d : weights_of n D ≡ new_weights parities n (weights_of n C) last =
-      ap (λ (r : Reading). r.weights) list.reads ∙ c.new_is ∙ ap (λ (x : List ℕ). new_weights parities n x last) (w_is read_c) in
-      let r_d : (read max_wires n D).rows ≡ (read max_wires n C).rows = ap (λ (r : Reading). r.rows) list.reads ∙ rows_is read_c in
+      ap (λ (r : Reading). r.weights) list.reads ∙ c.new_is ∙ ap (λ (x : List ℕ). new_weights parities n x last) (w_is reading_c) in
+      let r_d : (read max_wires n D).rows ≡ (read max_wires n C).rows = ap (λ (r : Reading). r.rows) list.reads ∙ rows_is reading_c in
       let t_d : t_gates D ≡ member_count (odd_set_of n D) =
       list.t_counted ∙ ap (λ (r : Reading). member_count (odd_set r.weights)) (sym list.reads) in
       let all : Trimmed n C D log' counts =
@@ -130,7 +147,7 @@ module _ {n : ℕ} {bytes out log w rows first : List ℕ} {k : ℕ} {last log' 
       counts tin (odd ∙ ap member_count (first_is c.moved.marked)) tout moves (gates ∙ wrote.counted) in
       let new_c : new ≡ new_weights parities n (weights_of n C) (odd_set_of n D) =
       sym (ap (λ (r : Reading). r.weights) list.reads) ∙ all.weights in
-      let to_write_is : reading_lent new rows ≡ to_write n C D = ap₂ reading_lent new_c (rows_is read_c) in
+      let to_write_is : reading_lent new rows ≡ to_write n C D = ap₂ reading_lent new_c (rows_is reading_c) in
       let for_c : WritesFor n C D = subst (λ (r : Reading). Wrote max_wires n r D) to_write_is list in
       let alone : ChosenFor n C D = wrote.alone ∙ ap (chosen max_wires n) to_write_is in
       record {

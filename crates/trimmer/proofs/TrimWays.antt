@@ -15,7 +15,7 @@ use Rattle.trimmed.specs.declared.Counts.{Counts}
 use Rattle.trimmer.specs.Entry.{DoneWith, TrimLeft, TrimList, Trimmable, no_counts, trim_lent, verdict}
 
 module _ {n : ℕ} {g out log : List ℕ} where
-  pub trim_refused : {refusal : Refusal} → told {Counts} (Err refusal) ≡ verdict n g (length out) (length log)
+  pub trim_refused : {refusal : Refusal} → told {A = Counts} (Err refusal) ≡ verdict n g (length out) (length log)
       → TrimList n g out log out log (Err refusal)
   trim_refused {refusal} judged =
       record { reply = judged; left = refused_keeps (λ f. TrimLeft f no_counts n g out log out log) (λ f. (refl, refl)) refusal }
