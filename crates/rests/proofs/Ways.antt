@@ -1,12 +1,11 @@
--- No fault, exactly where a call brings and lends what it must: what the entry knows where it goes on to write, and what Laws says of its
--- reply.
+-- No fault, exactly where a call brings and lends what it must.
 use mathlib.Core.List.{List}
 use mathlib.Core.Logic.{◌↔◌}
-use mathlib.Core.Path.{sym, ◌∙◌, ◌≡◌}
-use Prim.Native.Nat.{ℕ, ◌≤◌}
+use mathlib.Core.Path.{◌≡◌}
+use Prim.Native.Nat.{ℕ}
 use Rattle.circuit.proofs.Judging.{or_pass, or_well}
 use Rattle.circuit.proofs.TableRule.{marks_sound}
-use Rattle.circuit.specs.Limits.{max_wires, parities, table_bytes}
+use Rattle.circuit.specs.Limits.{parities, table_bytes}
 use Rattle.circuit.specs.Sound.{SoundMarks, SoundWeights}
 use Rattle.circuit.specs.TableFaults.{marks_fault}
 use Rattle.weights.proofs.Ways.{Wires, odd_set_passes}
@@ -21,8 +20,3 @@ new_weights_passes n w marks out = (
       (b.0, b.1, (b.2, (marks_sound parities n marks).0 a.1)),
   λ s. or_well _ _ ((odd_set_passes n w out).1 (s.0, s.1, s.2.0)) ((marks_sound parities n marks).1 s.2.1),
 )
-
--- what the writer needs, where the fault f that was found is none
-pub new_fits : (n : ℕ) (w m : List ℕ) (out f : ℕ) → f ≡ new_weights_fault n w m out → f ≡ 0
-    → (n ≤ max_wires) × SoundWeights parities n w × SoundMarks parities n m
-new_fits n w m out f e z = let a = (new_weights_passes n w m out).0 (sym e ∙ z) in (a.0.1, a.2.0, a.2.1)
