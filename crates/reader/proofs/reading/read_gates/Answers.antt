@@ -43,7 +43,7 @@ loop-kind-preserved c =
     let items = c.gates-kind-items.result.now in
     let i = c.loop-kind.kind-index in
     let here = next_gate items i c.loop-kind-test.true c.loop-kind.invariant.to in
-    elim c.match-phase.branch [
+    elim c.match-and_then.branch [
       | in-None w ↦
           let is : Cnot ≡ kind_of (get_or (get_or items i []) 0 0) = search rules in
           rw (w.weights-is, w.rows-is, w.tcount-is)
