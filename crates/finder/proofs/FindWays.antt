@@ -1,4 +1,4 @@
--- What follows from a call of the entry `find` that has no fault: the marks are sound, and where the search finds nothing, so does the call.
+-- What follows from a call of the entry `find` without a fault: the marks are sound, and where the search finds nothing, so does the call.
 use mathlib.Core.List.{List}
 use mathlib.Core.Path.{◌∙◌, ◌≡◌, ap, refl, sym}
 use Prim.Native.Nat.{ℕ}

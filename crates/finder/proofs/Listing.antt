@@ -5,7 +5,7 @@ use Prim.Native.Nat.{◌+◌, ◌<◌, ◌^◌, ◌≤◌, suc, zero, ℕ}
 use native.Mathlib.Nat.{add-zero, le_refl}
 use native.Mathlib.Numerals.{add-one}
 use native.Mathlib.Omega.{arith}
-use lib.ListN.{length, length-set, length-take, set, take}
+use lib.ListN.{length, length-set, set, take}
 use lib.Seq.{take-set-le, take-suc-set}
 use Rattle.circuit.specs.Limits.{max_wires, parities}
 use Rattle.circuit.specs.Sound.{SoundMarks, weight}
@@ -47,16 +47,15 @@ gather_next {marks} {list} {count} {p} g l b put =
       are = next marks list count p (weight marks p) g.are (omega (arith, g.fits, g.long)) refl b;
     })
 
--- ---- what was gathered, as the code takes that part of the list
+-- ---- what was gathered
 
-module _ {n : ℕ} {marks list : List ℕ} {count : ℕ} (fit : n ≤ max_wires) (sound : SoundMarks parities n marks)
-    (g : Gathered (2 ^ n) marks list count) where
-  -- it is the list of the members
-  pub gathered_members : {ys : List ℕ} → ys ≡ take count list → Members marks ys
-  gathered_members e =
-      rw (e, g.are) (record {
-        sound = sound_wires parities n max_wires marks fit sound;
-        few = rw (← g.are) (omega (arith, g.fits, length-take count list));
-        member = listed_in (weight marks) sound.bits (2 ^ n);
-        listed = λ y m. in_listed (weight marks) sound.bits (2 ^ n) y (member_lt parities n marks sound y m) m;
-      })
+-- it is the list of the members
+pub gathered_members : {n : ℕ} {marks ys : List ℕ} → n ≤ max_wires → SoundMarks parities n marks → Gathered (2 ^ n) marks ys
+    → Members marks ys
+gathered_members {n} {marks} {ys} fit sound g =
+    record {
+      sound = sound_wires parities n max_wires marks fit sound;
+      few = g.fits;
+      member = rw g.are (listed_in (weight marks) sound.bits (2 ^ n));
+      listed = rw g.are (λ y m. in_listed (weight marks) sound.bits (2 ^ n) y (member_lt parities n marks sound y m) m);
+    }

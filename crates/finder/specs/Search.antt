@@ -1,16 +1,15 @@
 -- What the finder's parts promise.
-use Rattle.std.specs.Prelude.{List, None, Option, Some, ◌≡◌, ◌≤◌, ℕ, length, take}
+use Rattle.std.specs.Prelude.{List, None, Option, Some, ◌≡◌, ◌≤◌, ℕ, length}
 use Rattle.circuit.specs.Limits.{max_members, max_wires, parities}
 use Rattle.circuit.specs.Sound.{weight}
 use Rattle.moves.specs.Log.{SmallestCells}
 use Rattle.moves.specs.Move.{NoneBelow, NoneLegal}
 use Rattle.moves.specs.Sets.{listed}
 
--- the first `count` of the list are the members below `size`, in ascending order
-pub record Gathered (size : ℕ) (marks list : List ℕ) (count : ℕ) : Type 0 where
-  pub fits : count ≤ parities
-  pub long : length list ≡ parities
-  pub are : take count list ≡ listed size (weight marks)
+-- these are the members below `size`, in ascending order
+pub record Gathered (size : ℕ) (marks ys : List ℕ) : Type 0 where
+  pub fits : length ys ≤ parities
+  pub are : ys ≡ listed size (weight marks)
 
 -- on all wires: a legal move with the smallest z, or none is legal with a z below `size`
 abbrev pub Scanned : ℕ → List ℕ → Option (List ℕ) → Type 0

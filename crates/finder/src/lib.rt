@@ -11,13 +11,13 @@ pub mod members;
 pub mod scan;
 
 use circuit::faults::Refusal;
-use circuit::limits::{MAX_MARK, MOVE_CELLS, Mark, MoveCell, TABLE_BYTES};
+use circuit::limits::{MAX_MARK, MOVE_CELLS, Mark, MoveCell, PARITIES, TABLE_BYTES};
 use columns::Search;
 use columns::table::Products;
 use judges::faults::check_lent;
 use judges::table_faults::check_call;
 use kernel::Move;
-use members::MemberList;
+use members::gather;
 use moves::Sought;
 use scan::scan;
 
@@ -43,11 +43,11 @@ pub fn search_by(products: &Products, n: usize, marks: &[Mark; TABLE_BYTES]) -> 
     requires { Marked n marks.now }
     ensures { Searched n marks.now result }
 {
-    let list = MemberList::gather(1 << n, marks);
+    let mut list = [0; PARITIES];
     let search = Search {
         products,
         marks,
-        members: list.as_slice(),
+        members: gather(1 << n, marks, &mut list),
     };
     scan(n, &search)
 }

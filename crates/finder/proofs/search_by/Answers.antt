@@ -9,8 +9,8 @@ use Rattle.finder.proofs.search_by.Goals as goal
 pub invariant_of-search : goal.invariant_of-search
 invariant_of-search c =
     let m = c.requires in
-    let gathered = rw (shifted 64 c.args.n (omega arith)) at c.gather-list.ensures in
-    record { listed = merely (gathered_members m.few m.sound gathered c.as_slice.ensures) }
+    let gathered = rw (shifted 64 c.args.n (omega arith)) at c.gather.ensures in
+    record { listed = merely (gathered_members m.few m.sound gathered) }
 
 pub returns : goal.returns
 returns c = scanned_searched c.requires.few c.requires.sound _ c.scan.ensures

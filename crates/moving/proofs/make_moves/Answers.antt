@@ -27,7 +27,8 @@ overflow_add-at c = record { fits = omega (arith, few_moves c.loop-cells.invaria
 
 pub slice_bounds-copy_from_slice-end : goal.slice_bounds-copy_from_slice-end
 slice_bounds-copy_from_slice-end c =
-    let room : move_cells * c.loop-cells.count + move_cells ≤ length c.loop-cells.log = move_room c.loop-cells.invariant c.in-Some.ensures in
+    let room : move_cells * c.loop-cells.count + move_cells ≤ length c.loop-cells.log =
+    move_room c.loop-cells.invariant c.in-Some.ensures in
     search rules
 
 pub make_move-requires : goal.make_move-requires

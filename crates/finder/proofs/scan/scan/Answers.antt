@@ -7,7 +7,8 @@ use Rattle.columns.proofs.Apart.{half_kept}
 use Rattle.columns.proofs.InTurn.{members_had}
 use Rattle.gf2.proofs.Leading.{bit-top}
 use Rattle.moves.proofs.Smallest.{none_below_more, none_below_one}
-use Rattle.finder.proofs.Asking.{asked_next, asked_skip, asked_start, half_for_next, half_for_one, half_for_this, offered_smallest, z_passed}
+use Rattle.finder.proofs.Asking.{asked_next, asked_skip, asked_start, half_for_next, half_for_one, half_for_this}
+use Rattle.finder.proofs.Asking.{offered_smallest, z_passed}
 use Rattle.finder.proofs.scan.scan.Goals as goal
 use Rattle.finder.proofs.scan.scan.Goals.{in-Some+in_default-offer, in_default}
 

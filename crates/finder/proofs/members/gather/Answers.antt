@@ -4,10 +4,10 @@ use Prim.Native.Nat.{◌<◌}
 use native.Mathlib.Omega.{arith}
 use Rattle.std.proofs.Common.{get_or-take}
 use Rattle.finder.proofs.Listing.{gather_next, gather_none}
-use Rattle.finder.proofs.members.MemberList.gather.Goals as goal
+use Rattle.finder.proofs.members.gather.Goals as goal
 
 pub loop-p-init : goal.loop-p-init
-loop-p-init c = gather_none refl
+loop-p-init c = gather_none (omega arith)
 
 pub loop-p-preserved : goal.loop-p-preserved
 loop-p-preserved c =
