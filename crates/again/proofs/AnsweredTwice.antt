@@ -8,7 +8,7 @@ use Rattle.circuit.proofs.Bytes.{gates_of_bytes}
 use Rattle.circuit.proofs.Judging.{formed_done, refused_not_done, short_well}
 use Rattle.circuit.specs.Faults.{AllWellFormed, call_reply, first_fault}
 use Rattle.circuit.specs.Gate.{Gate, bytes_of, gates_of}
-use Rattle.circuit.specs.declared.Reply.{Reply}
+use Rattle.circuit.specs.Replies.{Reply}
 use Rattle.text.specs.Limits.{reply_bytes}
 use Rattle.text.specs.Text.{Sayable, Text, circuit, read_text}
 use Rattle.text.specs.Written.{counts_line, gate_lines, wires_line}

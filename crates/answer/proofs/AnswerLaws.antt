@@ -17,10 +17,10 @@ use Rattle.circuit.specs.Gate.{Gate, bytes_of, gate, gates_of, kind_of, t_gates}
 use Rattle.circuit.specs.Lent.{KeptFrom}
 use Rattle.circuit.specs.Limits.{max_gates, max_wires, max_written_gates}
 use Rattle.circuit.specs.Replies.{number_of, place_of}
-use Rattle.circuit.specs.declared.Reply.{Reply}
-use Rattle.circuit.specs.declared.Reply.TheVariants as reply
-use Rattle.circuit.specs.declared.gates.Kind.{Kind}
-use Rattle.circuit.specs.declared.gates.Kind.TheVariants.{Cnot, Phase, Unknown}
+use Rattle.circuit.specs.Replies.{Reply}
+use Rattle.circuit.specs.Replies as reply
+use Rattle.circuit.specs.Gate.{Kind}
+use Rattle.circuit.specs.Gate.{Cnot, Phase, Unknown}
 use Rattle.written.proofs.Laws.{rack_runs_wrote}
 use Rattle.written.proofs.Checks.{longest}
 use Rattle.written.specs.Spelling.{RackRuns}

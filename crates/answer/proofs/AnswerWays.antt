@@ -14,8 +14,8 @@ use Rattle.circuit.specs.Gate.{gates_of}
 use Rattle.circuit.specs.Lent.{front_gates}
 use Rattle.circuit.specs.Limits.{gate_bytes, log_cells, max_list_bytes, write_bytes}
 use Rattle.circuit.specs.Replies.{number_of}
-use Rattle.circuit.specs.declared.Reply.{Reply}
-use Rattle.circuit.specs.declared.Reply.TheVariants as reply
+use Rattle.circuit.specs.Replies.{Reply}
+use Rattle.circuit.specs.Replies as reply
 use Rattle.text.proofs.TextLaws.{circuit_said, fault_said_lem}
 use Rattle.text.specs.Entry.{ReadText}
 use Rattle.text.specs.Limits.{reply_bytes}

@@ -5,8 +5,8 @@ use Rattle.answer.specs.declared.Answered.{Answered}
 use Rattle.answer.specs.declared.Answered.TheVariants.{Done, Refused}
 use Rattle.circuit.specs.Faults.{call_reply, short_fault}
 use Rattle.circuit.specs.Replies.{number_of}
-use Rattle.circuit.specs.declared.Reply.{Reply}
-use Rattle.circuit.specs.declared.Reply.TheVariants as reply
+use Rattle.circuit.specs.Replies.{Reply}
+use Rattle.circuit.specs.Replies as reply
 use Rattle.text.specs.Limits.{reply_bytes}
 use Rattle.lines.specs.Placed.{Writes}
 use Rattle.text.specs.Text.{Text, read_text}

@@ -2,8 +2,8 @@
 use Rattle.std.specs.Prelude.{List, ◌++◌, ◌≡◌, ℕ}
 use Rattle.circuit.specs.Faults.{first_fault}
 use Rattle.circuit.specs.Gate.{Gate, gates_of}
-use Rattle.circuit.specs.declared.Reply.{Reply}
-use Rattle.circuit.specs.declared.Reply.TheVariants.{Done, Refused}
+use Rattle.circuit.specs.Replies.{Reply}
+use Rattle.circuit.specs.Replies.{Done, Refused}
 use Rattle.text.specs.Text.{Text, circuit, faulty}
 use Rattle.text.specs.Written.{counts_line, gate_lines, refused_line, wires_line}
 use Rattle.trimmed.specs.Trimmed.{Trimmed}

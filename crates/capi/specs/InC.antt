@@ -8,7 +8,7 @@ use Rattle.carry.specs.declared.Moved.{Moved}
 use Rattle.circuit.specs.Limits.{move_cells}
 use Rattle.circuit.specs.Read.{either}
 use Rattle.circuit.specs.Replies.{number_of, place_of}
-use Rattle.circuit.specs.declared.Reply.{Reply}
+use Rattle.circuit.specs.Replies.{Reply}
 use Rattle.compare.specs.Entry as compare
 use Rattle.compare.specs.declared.Compared.{Compared}
 use Rattle.finder.specs.Entry as find

@@ -1,11 +1,12 @@
 -- Gates and their bytes: what a loop over bytes, three at a time, needs; one way and back, joined, and how many.
-use mathlib.Core.List.{List, [], ◌++◌, ◌∷◌}
+use mathlib.Core.List.{List, [], ◌++◌, ◌∷◌, map}
 use mathlib.Core.Path.{ap, refl, ◌∙◌, ◌≡◌}
-use Prim.Native.Nat.{◌%◌, ◌*◌, ◌+◌, ◌/◌, ◌<◌, suc, ℕ, ◌≤◌}
+use Prim.Native.Nat.{◌%◌, ◌*◌, ◌+◌, ◌/◌, ◌<◌, suc, zero, ℕ, ◌≤◌}
 use native.Mathlib.Omega.{arith}
 use lib.ListN.{drop, get_or, length, length-drop}
 use lib.Seq.{drop-cons}
-use Rattle.circuit.specs.Gate.{Gate, byte_gate, bytes_of, gate, gates_of}
+use Rattle.std.specs.Simd.{first_chunks}
+use Rattle.circuit.specs.Gate.{Gate, byte_gate, bytes_of, gate, gate_of, gates_of}
 use Rattle.circuit.specs.Limits.{gate_bytes}
 
 -- the gates from gate i on
@@ -43,6 +44,18 @@ short (k ∷ a ∷ b ∷ bytes) h = absurd (omega arith)
 
 pub gates_tail : (bytes : List ℕ) (i : ℕ) → i ≡ length bytes / gate_bytes → gates_from bytes i ≡ []
 gates_tail bytes i e = short (drop (gate_bytes * i) bytes) (rw (length-drop (gate_bytes * i) bytes) (omega arith))
+
+-- a slice cut into threes
+pub gates_chunked : (bytes : List ℕ) (k : ℕ) → k ≡ length bytes / gate_bytes → map gate_of (first_chunks gate_bytes k bytes) ≡ gates_of bytes
+unfolding gates_of
+gates_chunked [] zero e = refl
+gates_chunked (kind ∷ []) zero e = refl
+gates_chunked (kind ∷ a ∷ []) zero e = refl
+gates_chunked (kind ∷ a ∷ b ∷ bytes) zero e = absurd (omega arith)
+gates_chunked [] (suc k) e = absurd (omega arith)
+gates_chunked (kind ∷ []) (suc k) e = absurd (omega arith)
+gates_chunked (kind ∷ a ∷ []) (suc k) e = absurd (omega arith)
+gates_chunked (kind ∷ a ∷ b ∷ bytes) (suc k) e = ap (λ (l : List Gate). gate kind a b ∷ l) (gates_chunked bytes k (omega arith))
 
 -- a gate takes three bytes
 pub gates_in : (bytes : List ℕ) → gate_bytes * length (gates_of bytes) ≤ length bytes

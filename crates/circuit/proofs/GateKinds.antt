@@ -1,5 +1,6 @@
 -- The kind of a gate, by its byte: what the code's match tells, and that T and T dagger are the gates that add an odd phase. What holds of
 -- every kind is one test, computed at each up to the last.
+use mathlib.Core.Logic.{◌≢◌}
 use mathlib.Core.Path.{◌≡◌, subst}
 use Prim.Native.Nat.{◌%◌, ◌<◌, ◌≤◌, suc, ℕ}
 use native.Mathlib.Decide.{dec_lt}
@@ -12,21 +13,17 @@ use Rattle.gf2.specs.Every.{every}
 use Rattle.gf2.specs.Sum.{delta}
 use Rattle.circuit.specs.Faults.{KindWellFormed, WellFormed}
 use Rattle.circuit.specs.Gate.{CNOT, S, S_DAGGER, T, T_DAGGER, Z, gate, is_t, kind_of, last_kind}
-use Rattle.circuit.specs.declared.gates.Kind.{Kind}
-use Rattle.circuit.specs.declared.gates.Kind.TheVariants.{Cnot, Phase, Unknown}
+use Rattle.circuit.specs.Gate.{Kind}
+use Rattle.circuit.specs.Gate.{Cnot, Phase, Unknown}
+
+-- a byte that is none of the kinds
+pub no_kind : (kind : ℕ) → kind ≢ CNOT → kind ≢ T → kind ≢ S → kind ≢ Z → kind ≢ S_DAGGER → kind ≢ T_DAGGER → kind_of kind ≡ Unknown
+unfolding kind_of
+no_kind kind a b c d e f = simp (ne_eqb kind CNOT a, ne_eqb kind T b, ne_eqb kind S c, ne_eqb kind Z d, ne_eqb kind S_DAGGER e, ne_eqb kind T_DAGGER f)
 
 -- past the last kind there is none
 pub kind_above : (kind : ℕ) → last_kind < kind → kind_of kind ≡ Unknown
-unfolding kind_of
-kind_above kind h =
-    simp (
-      ne_eqb kind CNOT (omega arith),
-      ne_eqb kind T (omega arith),
-      ne_eqb kind S (omega arith),
-      ne_eqb kind Z (omega arith),
-      ne_eqb kind S_DAGGER (omega arith),
-      ne_eqb kind T_DAGGER (omega arith),
-    )
+kind_above kind h = no_kind kind (omega arith) (omega arith) (omega arith) (omega arith) (omega arith) (omega arith)
 
 -- so a gate without a fault has one of the kinds
 pub known_kind : (n kind a b : ℕ) → WellFormed n (gate kind a b) → kind ≤ last_kind

@@ -15,10 +15,10 @@ use Rattle.circuit.specs.Faults.{call_reply, lent_fault, list_call_fault, list_f
 use Rattle.circuit.specs.Gate.{Gate, gate, gates_of, kind_of}
 use Rattle.circuit.specs.Limits.{gate_bytes, max_list_bytes, max_wires}
 use Rattle.circuit.specs.Replies.{after, number_of, place_of}
-use Rattle.circuit.specs.declared.gates.Kind.{Kind}
-use Rattle.circuit.specs.declared.gates.Kind.TheVariants.{Cnot, Phase, Unknown}
-use Rattle.circuit.specs.declared.Reply.{Reply}
-use Rattle.circuit.specs.declared.Reply.TheVariants.{Done, Refused}
+use Rattle.circuit.specs.Gate.{Kind}
+use Rattle.circuit.specs.Gate.{Cnot, Phase, Unknown}
+use Rattle.circuit.specs.Replies.{Reply}
+use Rattle.circuit.specs.Replies.{Done, Refused}
 
 -- ---- a call
 

@@ -23,7 +23,7 @@ use Rattle.circuit.specs.Replies.{number_of}
 use Rattle.circuit.specs.Run.{SameAction, ToldApart, run}
 use Rattle.circuit.specs.Says.{end_state, says}
 use Rattle.circuit.specs.Sound.{SoundReading}
-use Rattle.circuit.specs.declared.Reply.TheVariants.{Done, Refused}
+use Rattle.circuit.specs.Replies.{Done, Refused}
 use Rattle.gf2.specs.Selection.{Independent}
 
 -- ---- demand 2: nothing in the weights and rows read from a list differs from the list run gate by gate. For every n and N

@@ -10,6 +10,7 @@ pub mod SameRows
 pub mod Alike
 pub mod OddSet
 pub mod Judging
+pub mod Results
 pub mod TableRule
 pub mod Steps
 pub mod Laws

@@ -20,8 +20,8 @@ use Rattle.circuit.specs.Gate.{Gate, gate, is_t, kind_of, t_gates}
 use Rattle.circuit.specs.OddSet.{member_count, odd_set}
 use Rattle.circuit.specs.Read.{Reading, no_weights, read, read_from, read_gate, read_kind, row, start, with_weights}
 use Rattle.circuit.specs.Sound.{SoundReading}
-use Rattle.circuit.specs.declared.gates.Kind.{Kind}
-use Rattle.circuit.specs.declared.gates.Kind.TheVariants.{Cnot, Phase, Unknown}
+use Rattle.circuit.specs.Gate.{Kind}
+use Rattle.circuit.specs.Gate.{Cnot, Phase, Unknown}
 
 -- the number of odd weights
 odds : List ℕ → ℕ

@@ -27,8 +27,8 @@ use Rattle.circuit.specs.Read.{Reading, join_rows, no_weights, read, read_from, 
 use Rattle.circuit.specs.Run.{State, flip_target, run, run_from, run_gate, run_kind}
 use Rattle.circuit.specs.Says.{end_state, phase_at, says}
 use Rattle.circuit.specs.Sound.{SoundReading}
-use Rattle.circuit.specs.declared.gates.Kind.{Kind}
-use Rattle.circuit.specs.declared.gates.Kind.TheVariants.{Cnot, Phase, Unknown}
+use Rattle.circuit.specs.Gate.{Kind}
+use Rattle.circuit.specs.Gate.{Cnot, Phase, Unknown}
 
 -- what a reading says of the state that x has become, bit by bit
 pub record Tells (n x : ℕ) (r : Reading) (s : State) : Type 0 where

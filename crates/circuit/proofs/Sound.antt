@@ -19,8 +19,8 @@ use Rattle.circuit.specs.Faults.{AllWellFormed, KindWellFormed, WellFormed}
 use Rattle.circuit.specs.Gate.{Gate, gate, kind_of}
 use Rattle.circuit.specs.Read.{Reading, first_row, first_rows, join_rows, no_weights, read, read_from, read_gate, read_kind, row, start}
 use Rattle.circuit.specs.Sound.{SoundReading, SoundRows, SoundWeights}
-use Rattle.circuit.specs.declared.gates.Kind.{Kind}
-use Rattle.circuit.specs.declared.gates.Kind.TheVariants.{Cnot, Phase, Unknown}
+use Rattle.circuit.specs.Gate.{Kind}
+use Rattle.circuit.specs.Gate.{Cnot, Phase, Unknown}
 
 pub first_row_lem : (N n i : ℕ) → i < n → n ≤ N → get_or (first_rows N n) i 0 ≡ 2 ^ i
 unfolding first_rows

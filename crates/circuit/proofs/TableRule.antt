@@ -13,7 +13,7 @@ use Rattle.circuit.specs.Faults.{call_reply, or_else, table_rule, wires_fault}
 use Rattle.circuit.specs.Limits.{max_mark, max_weight, max_wires, parities}
 use Rattle.circuit.specs.Sound.{SoundMarks, SoundWeights, weight}
 use Rattle.circuit.specs.TableFaults.{Marked, byte_fault, bytes_fault, call_fault, marks_fault, most_at, table_fault, weights_fault}
-use Rattle.circuit.specs.declared.Reply.TheVariants.{Done, Refused}
+use Rattle.circuit.specs.Replies.{Done, Refused}
 
 -- ---- one byte
 

@@ -2,9 +2,6 @@
 use Rattle.std.specs.Prelude.{cond, List, [], ◌∷◌, ◌*◌, ◌+◌, ℕ, eqb, get_or}
 use Rattle.gf2.specs.Sum.{delta}
 use Rattle.circuit.specs.Limits.{gate_bytes}
-use Rattle.circuit.specs.declared.gates.GateBytes.{GateBytes}
-use Rattle.circuit.specs.declared.gates.Kind.{Kind}
-use Rattle.circuit.specs.declared.gates.Kind.TheVariants.{Cnot, Phase, Unknown}
 
 -- kind, a, b
 pub data Gate : Type 0 where
@@ -35,6 +32,12 @@ T_DAGGER = 6
 -- the kinds are 1 to this
 abbrev pub last_kind : ℕ
 last_kind = T_DAGGER
+
+-- what a kind byte says: a CNOT; a phase gate, with what it adds in eighths of a turn; or no gate
+pub data Kind : Type 0 where
+  Cnot : Kind
+  Phase : ℕ → Kind
+  Unknown : Kind
 
 -- what a kind says: a CNOT, or a phase gate with the eighths of a turn that it adds; there are no other kinds
 unfoldable pub kind_of : ℕ → Kind
@@ -69,9 +72,9 @@ gates_of (kind ∷ a ∷ b ∷ bytes) = gate kind a b ∷ gates_of bytes
 abbrev pub byte_gate : List ℕ → ℕ → Gate
 byte_gate bytes i = gate (get_or bytes (gate_bytes * i) 0) (get_or bytes (gate_bytes * i + 1) 0) (get_or bytes (gate_bytes * i + 2) 0)
 
--- the code's three bytes are a gate
-abbrev pub gate_of : GateBytes → Gate
-gate_of t = gate t.kind t.a t.b
+-- three bytes are a gate
+abbrev pub gate_of : List ℕ → Gate
+gate_of bytes = gate (get_or bytes 0 0) (get_or bytes 1 0) (get_or bytes 2 0)
 
 -- the bytes of a list of gates
 unfoldable pub bytes_of : List Gate → List ℕ

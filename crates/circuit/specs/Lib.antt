@@ -9,3 +9,5 @@ pub mod Sound
 pub mod Faults
 pub mod TableFaults
 pub mod Replies
+pub mod Told
+pub mod Kinds

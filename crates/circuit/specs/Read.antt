@@ -3,8 +3,8 @@ use Rattle.std.specs.Prelude.{Bool, false, true, List, [], ◌∷◌, ◌^◌, �
 use Rattle.std.specs.Int.Bits.{bit_xor}
 use Rattle.gf2.specs.Table.{add_at, tabulate}
 use Rattle.circuit.specs.Gate.{Gate, gate, kind_of}
-use Rattle.circuit.specs.declared.gates.Kind.{Kind}
-use Rattle.circuit.specs.declared.gates.Kind.TheVariants.{Cnot, Phase, Unknown}
+use Rattle.circuit.specs.Gate.{Kind}
+use Rattle.circuit.specs.Gate.{Cnot, Phase, Unknown}
 
 pub record Reading : Type 0 where
   pub weights : List ℕ

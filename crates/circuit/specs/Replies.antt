@@ -1,7 +1,10 @@
 -- A reply in document 01's numbers, and what a lent buffer holds after it.
 use Rattle.std.specs.Prelude.{List, suc, zero, ℕ}
-use Rattle.circuit.specs.declared.Reply.{Reply}
-use Rattle.circuit.specs.declared.Reply.TheVariants.{Done, Refused}
+
+-- done, or refused with the number and the place of the fault
+pub data Reply : Type 0 where
+  Done : Reply
+  Refused : ℕ → ℕ → Reply
 
 -- document 01's number of a reply, 0 for none, and its place
 abbrev pub number_of : Reply → ℕ

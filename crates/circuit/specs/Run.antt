@@ -4,8 +4,8 @@ use Rattle.std.specs.Prelude.{List, [], ◌∷◌, ◌≢◌, ◌≡◌, ◌%◌
 use Rattle.std.specs.Int.Bits.{bit_xor}
 use Rattle.gf2.specs.Bit.{bit}
 use Rattle.circuit.specs.Gate.{Gate, gate, kind_of}
-use Rattle.circuit.specs.declared.gates.Kind.{Kind}
-use Rattle.circuit.specs.declared.gates.Kind.TheVariants.{Cnot, Phase, Unknown}
+use Rattle.circuit.specs.Gate.{Kind}
+use Rattle.circuit.specs.Gate.{Cnot, Phase, Unknown}
 
 -- a basis state, bit i for wire i, and the phase in eighths of a turn, counted modulo 8
 pub record State : Type 0 where

@@ -1,71 +1,86 @@
-// The kinds of gates, each once by name, and what a gate's kind byte says (document 01, "Gates and what they do"). Reading and judging
+// Gates, three bytes each, and the kinds of gates, each once by name (document 01, "Gates and what they do"). Reading, judging and writing
 // ask here.
-ghost use Rattle.std.specs.Prelude.{◌≡◌, ◌*◌, ◌+◌, ◌<◌, ◌≤◌, length};
-ghost use Rattle.circuit.specs.Gate.{T, T_DAGGER, byte_gate, gate_of, kind_of};
-ghost use Rattle.circuit.specs.Limits.{gate_bytes};
+ghost use Rattle.std.specs.Prelude.{◌≡◌, map};
+ghost use Rattle.circuit.specs.Gate.{gate_of, gates_of, kind_of};
+ghost use Rattle.circuit.specs.Kinds.{kind_said, number_of, phase_said, says};
 
+use crate::faults::Fault;
 use crate::limits::{GATE_BYTES, Weight};
 
-pub const CNOT: u8 = 1;
-
-pub const T: u8 = 2;
-
-pub const S: u8 = 3;
-
-pub const Z: u8 = 4;
-
-pub const S_DAGGER: u8 = 5;
-
-pub const T_DAGGER: u8 = 6;
-
-// The three bytes of a gate.
-#[derive(Drop)]
-pub struct GateBytes {
-    pub kind: u8,
-    pub a: u8,
-    pub b: u8,
+// The number of a kind is the kind byte of its gates.
+#[derive(Clone, Copy, Debug, PartialEq, Eq)]
+pub enum GateKind {
+    Cnot = 1,
+    T = 2,
+    S = 3,
+    Z = 4,
+    SDagger = 5,
+    TDagger = 6,
 }
 
-// Gate i of a list. Internal: the list has so many.
-pub fn gate_at(gates: &[u8], i: usize) -> GateBytes
-    requires { gate_bytes * i + 2 < length gates.now }
-    ensures { gate_of result ≡ byte_gate gates.now i }
-{
-    let j = GATE_BYTES * i;
-    GateBytes {
-        kind: gates[j],
-        a: gates[j + 1],
-        b: gates[j + 2],
+// A byte that is no kind.
+#[derive(Clone, Copy, Debug, PartialEq, Eq)]
+pub struct UnknownKind;
+
+impl TryFrom<u8> for GateKind {
+    type Error = UnknownKind;
+
+    ghost try_from_gives = { λ byte said. kind_said said ≡ kind_of byte };
+
+    fn try_from(byte: u8) -> Result<GateKind, UnknownKind> {
+        match byte {
+            1 => Ok(GateKind::Cnot),
+            2 => Ok(GateKind::T),
+            3 => Ok(GateKind::S),
+            4 => Ok(GateKind::Z),
+            5 => Ok(GateKind::SDagger),
+            6 => Ok(GateKind::TDagger),
+            _ => Err(UnknownKind),
+        }
     }
 }
 
-// A CNOT; a phase gate, with what it adds in eighths of a turn; or no gate.
-#[derive(Drop)]
-pub enum Kind {
-    Cnot,
-    Phase(Weight),
-    Unknown,
-}
+impl From<UnknownKind> for Fault {
+    ghost use Rattle.circuit.specs.declared.faults.Fault.TheVariants.{GateKind as KindFault};
 
-pub fn kind_of(kind: u8) -> Kind
-    ensures { result ≡ kind_of kind }
-{
-    match kind {
-        CNOT => Kind::Cnot,
-        T..=T_DAGGER => Kind::Phase(phase_of(kind)),
-        _ => Kind::Unknown,
+    ghost from_gives = { λ _ fault. fault ≡ KindFault };
+
+    fn from(_unknown: UnknownKind) -> Fault {
+        Fault::GateKind
     }
 }
 
-fn phase_of(kind: u8) -> Weight
-    requires { (T ≤ kind) × (kind ≤ T_DAGGER) }
-    ensures { Kind.Phase result ≡ kind_of kind }
-{
-    match kind {
-        T => 1,
-        S => 2,
-        Z => 4,
-        S_DAGGER => 6,
-        _ => 7,
+impl From<GateKind> for u8 {
+    ghost from_gives = { λ kind byte. byte ≡ number_of kind };
+
+    fn from(kind: GateKind) -> u8 {
+        kind as u8
     }
+}
+
+impl GateKind {
+    // What a phase gate adds, in eighths of a turn; nothing where it is a CNOT.
+    #[tactic(auto, unfolding(crate::specs::Gate::kind_of))]
+    pub fn phase(self) -> Option<Weight>
+        ensures { phase_said result ≡ says self }
+    {
+        match self {
+            GateKind::Cnot => None,
+            GateKind::T => Some(1),
+            GateKind::S => Some(2),
+            GateKind::Z => Some(4),
+            GateKind::SDagger => Some(6),
+            GateKind::TDagger => Some(7),
+        }
+    }
+}
+
+// The three bytes of a gate: kind, a, b.
+pub type Gate = [u8; GATE_BYTES];
+
+// The gates of a list. Bytes that do not fill a gate are no gate.
+pub fn gates(list: &[u8]) -> &[Gate]
+    ensures { map gate_of result.now ≡ gates_of list.now }
+{
+    list.as_chunks::<GATE_BYTES>().0
 }

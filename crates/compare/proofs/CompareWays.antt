@@ -11,8 +11,8 @@ use Rattle.circuit.specs.Gate.{gates_of}
 use Rattle.circuit.specs.Limits.{max_wires}
 use Rattle.circuit.specs.Run.{SameAction}
 use Rattle.circuit.specs.Sound.{SoundReading}
-use Rattle.circuit.specs.declared.Reply.{Reply}
-use Rattle.circuit.specs.declared.Reply.TheVariants as replies
+use Rattle.circuit.specs.Replies.{Reply}
+use Rattle.circuit.specs.Replies as replies
 use Rattle.gf2.proofs.Answers.{decides_as}
 use Rattle.gf2.specs.Tests.{Decides}
 use Rattle.phase.proofs.Laws.{acts_alike_exactly}

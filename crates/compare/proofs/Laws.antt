@@ -12,8 +12,8 @@ use Rattle.circuit.specs.Faults.{wires_fault}
 use Rattle.circuit.specs.Gate.{gates_of}
 use Rattle.circuit.specs.Replies.{number_of}
 use Rattle.circuit.specs.Run.{SameAction, ToldApart}
-use Rattle.circuit.specs.declared.Reply.{Reply}
-use Rattle.circuit.specs.declared.Reply.TheVariants as replies
+use Rattle.circuit.specs.Replies.{Reply}
+use Rattle.circuit.specs.Replies as replies
 use Rattle.compare.proofs.CompareWays.{both_accepted}
 use Rattle.compare.specs.Entry.{ComparesLists, and_then, as_second, compare_reply, same_of, told}
 use Rattle.compare.specs.declared.Compared.{Compared}

@@ -3,8 +3,8 @@ use Rattle.std.specs.Prelude.{List, ◌↔◌, ◌≡◌, ℕ}
 use Rattle.circuit.specs.Faults.{list_reply, second_list}
 use Rattle.circuit.specs.Gate.{gates_of}
 use Rattle.circuit.specs.Run.{SameAction, ToldApart}
-use Rattle.circuit.specs.declared.Reply.{Reply}
-use Rattle.circuit.specs.declared.Reply.TheVariants as replies
+use Rattle.circuit.specs.Replies.{Reply}
+use Rattle.circuit.specs.Replies as replies
 use Rattle.compare.specs.declared.Compared.{Compared}
 use Rattle.compare.specs.declared.Compared.TheVariants.{Differ, Refused, Same}
 

@@ -11,7 +11,7 @@ use Rattle.circuit.specs.Limits.{max_members, max_wires, move_cells, parities}
 use Rattle.circuit.specs.OddSet.{member_count}
 use Rattle.circuit.specs.Replies.{number_of, place_of}
 use Rattle.circuit.specs.Sound.{SoundMarks}
-use Rattle.circuit.specs.declared.Reply.TheVariants.{Done}
+use Rattle.circuit.specs.Replies.{Done}
 use Rattle.moves.proofs.Laws.{limits_suffice, none_legal_bound}
 use Rattle.moves.specs.Log.{SmallestCells}
 use Rattle.moves.specs.Move.{Movable, NoneLegal}

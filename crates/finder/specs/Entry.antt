@@ -4,8 +4,8 @@ use Rattle.circuit.specs.Faults.{call_reply, lent_fault}
 use Rattle.circuit.specs.Limits.{max_members, move_cells}
 use Rattle.circuit.specs.Replies.{number_of}
 use Rattle.circuit.specs.TableFaults.{call_fault, marks_fault}
-use Rattle.circuit.specs.declared.Reply.{Reply}
-use Rattle.circuit.specs.declared.Reply.TheVariants as reply
+use Rattle.circuit.specs.Replies.{Reply}
+use Rattle.circuit.specs.Replies as reply
 use Rattle.moves.specs.Log.{SmallestCells}
 use Rattle.moves.specs.Move.{NoneLegal}
 use Rattle.finder.specs.declared.Finding.{Finding}

@@ -9,9 +9,3 @@ AllAtMost from to table m = (p : ℕ) → from ≤ p → p < to → get_or table
 pub record Largest (from to : ℕ) (table : List ℕ) (r : ℕ) : Type 0 where
   pub none_above : AllAtMost from to table r
   pub least : (m : ℕ) → AllAtMost from to table m → r ≤ m
-
--- r is the larger of two numbers
-pub record Larger (a b r : ℕ) : Type 0 where
-  pub first : a ≤ r
-  pub second : b ≤ r
-  pub least : (m : ℕ) → a ≤ m → b ≤ m → r ≤ m

@@ -12,8 +12,8 @@ use Rattle.circuit.specs.Limits.{max_members, max_wires, move_cells, parities}
 use Rattle.circuit.specs.OddSet.{member_count}
 use Rattle.circuit.specs.Read.{no_weights}
 use Rattle.circuit.specs.Sound.{weight}
-use Rattle.circuit.specs.declared.gates.Kind.{Kind}
-use Rattle.circuit.specs.declared.gates.Kind.TheVariants.{Cnot, Phase, Unknown}
+use Rattle.circuit.specs.Gate.{Kind}
+use Rattle.circuit.specs.Gate.{Cnot, Phase, Unknown}
 use Rattle.gf2.proofs.Sum.{delta-same, sum-ext, sum-zero}
 use Rattle.moves.specs.Log.{logged}
 use Rattle.moves.specs.Replay.{Replays}

@@ -26,8 +26,8 @@ use Rattle.trimmer.specs.Entry.{no_counts}
 use Rattle.marked.proofs.Empty.{NothingToWrite, all_none, nothing_counted}
 use Rattle.marked.specs.Cases.{AllClaimed, Case, Claim, coefficients, dependent, leaves, odd_set_with, reads, refuses}
 use Rattle.marked.specs.Cases.{rows_with, trims, weights_with}
-use Rattle.circuit.specs.declared.Reply.{Reply}
-use Rattle.circuit.specs.declared.Reply.TheVariants.{Done, Refused}
+use Rattle.circuit.specs.Replies.{Reply}
+use Rattle.circuit.specs.Replies.{Done, Refused}
 
 -- a reply is that refusal
 unfoldable pub is_refusal : Reply → ℕ → ℕ → Bool

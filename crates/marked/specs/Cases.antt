@@ -10,7 +10,7 @@ use Rattle.gf2.specs.Selection.{combine}
 use Rattle.moves.specs.CarryOut.{carry_out}
 use Rattle.moves.specs.Move.{Legal}
 use Rattle.phase.specs.Coefficients.{c, l, q}
-use Rattle.circuit.specs.declared.Reply.TheVariants.{Refused}
+use Rattle.circuit.specs.Replies.{Refused}
 use Rattle.trimmed.specs.Trimmed.{Trimmed}
 use Rattle.trimmed.specs.declared.Counts.{Counts}
 use Rattle.trimmer.specs.Entry.{WritesFor, no_counts}

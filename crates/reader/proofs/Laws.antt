@@ -16,7 +16,7 @@ use Rattle.circuit.specs.Replies.{number_of}
 use Rattle.circuit.specs.Run.{run}
 use Rattle.circuit.specs.Says.{says}
 use Rattle.circuit.specs.Sound.{SoundReading}
-use Rattle.circuit.specs.declared.Reply.TheVariants.{Done}
+use Rattle.circuit.specs.Replies.{Done}
 use Rattle.reader.specs.Entry.{ReadList, read_lent, read_reply}
 
 -- ---- demand 1: the reply of `read`

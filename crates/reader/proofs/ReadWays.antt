@@ -12,8 +12,8 @@ use Rattle.circuit.specs.Lent.{read_bytes, reading_lent}
 use Rattle.circuit.specs.Limits.{max_wires, row_cells, table_bytes}
 use Rattle.circuit.specs.Read.{Reading}
 use Rattle.circuit.specs.Sound.{SoundReading}
-use Rattle.circuit.specs.declared.Reply.{Reply}
-use Rattle.circuit.specs.declared.Reply.TheVariants.{Done, Refused}
+use Rattle.circuit.specs.Replies.{Reply}
+use Rattle.circuit.specs.Replies.{Done, Refused}
 
 module _ {n : ℕ} {g w s : List ℕ} {found : Reply} (judged : found ≡ read_reply n g (length w) (length s)) where
   pub read_refused : {number place : ℕ} → found ≡ Refused number place → ReadList n g w s w s (Refused number place)

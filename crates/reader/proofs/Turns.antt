@@ -16,8 +16,8 @@ use Rattle.circuit.specs.Gate.{Gate, byte_gate, gate, gates_of, kind_of, t_gates
 use Rattle.circuit.specs.Limits.{gate_bytes}
 use Rattle.circuit.specs.Read.{Reading, first_row, first_rows, join_rows, read_from, read_kind, row, with_rows, with_weights}
 use Rattle.circuit.specs.Sound.{SoundReading}
-use Rattle.circuit.specs.declared.gates.Kind.{Kind}
-use Rattle.circuit.specs.declared.gates.Kind.TheVariants.{Cnot, Phase, Unknown}
+use Rattle.circuit.specs.Gate.{Kind}
+use Rattle.circuit.specs.Gate.{Cnot, Phase, Unknown}
 
 -- ---- reading the list, gate by gate
 

@@ -6,7 +6,7 @@ use Rattle.circuit.specs.Lent.{read_bytes, reading_lent, rows_lent, weights_lent
 use Rattle.circuit.specs.Limits.{max_wires, parities, row_cells, table_bytes}
 use Rattle.circuit.specs.Read.{Reading}
 use Rattle.circuit.specs.Replies.{after, number_of}
-use Rattle.circuit.specs.declared.Reply.{Reply}
+use Rattle.circuit.specs.Replies.{Reply}
 use Rattle.reader.specs.declared.reading.ListRead.{ListRead}
 
 -- the weights and rows that the code keeps of a list are a reading

@@ -10,7 +10,7 @@ use Rattle.circuit.specs.Faults.{call_reply}
 use Rattle.circuit.specs.Limits.{parities, table_bytes}
 use Rattle.circuit.specs.OddSet.{odd_set}
 use Rattle.circuit.specs.Sound.{SoundMarks, SoundWeights}
-use Rattle.circuit.specs.declared.Reply.TheVariants.{Done}
+use Rattle.circuit.specs.Replies.{Done}
 use Rattle.phase.proofs.Laws.{new_weights_odd_set, new_weights_same_phases, new_weights_shape, new_weights_sound, new_weights_unique}
 use Rattle.phase.specs.Coefficients.{SamePhases}
 use Rattle.phase.specs.NewWeights.{MarksAndRest}

@@ -4,7 +4,7 @@ use Rattle.circuit.specs.Faults.{call_reply, lent_fault, or_else}
 use Rattle.circuit.specs.Limits.{parities, table_bytes}
 use Rattle.circuit.specs.Replies.{after, number_of}
 use Rattle.circuit.specs.TableFaults.{call_fault, marks_fault, weights_fault}
-use Rattle.circuit.specs.declared.Reply.{Reply}
+use Rattle.circuit.specs.Replies.{Reply}
 use Rattle.phase.specs.NewWeights.{new_weights}
 
 -- 1, 8, 6, by the weights, the marks and the length of the output lent

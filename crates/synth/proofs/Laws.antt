@@ -14,7 +14,7 @@ use Rattle.circuit.specs.Read.{Reading}
 use Rattle.circuit.specs.Replies.{number_of, place_of}
 use Rattle.circuit.specs.Run.{run}
 use Rattle.circuit.specs.Says.{says}
-use Rattle.circuit.specs.declared.Reply.TheVariants as reply
+use Rattle.circuit.specs.Replies as reply
 use Rattle.written.proofs.Checks.{fault_ready, longest, ready_faultless}
 use Rattle.written.proofs.Laws.{rack_runs_wrote}
 use Rattle.written.specs.Faults.{Writable, write_fault}

@@ -5,8 +5,8 @@ use Rattle.circuit.specs.Faults.{Accepted, call_reply}
 use Rattle.circuit.specs.Lent.{KeptFrom, front_bytes, front_gates, reading_lent}
 use Rattle.circuit.specs.Limits.{gate_bytes, max_wires}
 use Rattle.circuit.specs.Replies.{number_of}
-use Rattle.circuit.specs.declared.Reply.{Reply}
-use Rattle.circuit.specs.declared.Reply.TheVariants as reply
+use Rattle.circuit.specs.Replies.{Reply}
+use Rattle.circuit.specs.Replies as reply
 use Rattle.written.specs.Chosen.{chosen}
 use Rattle.written.specs.Faults.{write_fault}
 use Rattle.written.specs.Wrote.{Wrote}

@@ -11,8 +11,8 @@ use lib.Seq.{get_or-take, take_all}
 use Rattle.gf2.proofs.Table.{drop-take}
 use Rattle.circuit.specs.Faults.{refuse, wires_fault}
 use Rattle.circuit.specs.Limits.{max_gates}
-use Rattle.circuit.specs.declared.Reply.{Reply}
-use Rattle.circuit.specs.declared.Reply.TheVariants.{Done, Refused}
+use Rattle.circuit.specs.Replies.{Reply}
+use Rattle.circuit.specs.Replies.{Done, Refused}
 use Rattle.text.proofs.LineForms.{first_formed_lem, starts}
 use Rattle.text.proofs.TextFaults.{by_count, done_few, done_next, fault_from, gate_right, gate_wrong, gates_done, one_too_many}
 use Rattle.text.proofs.TextFaults.{one_wrong, read_faulty}

@@ -9,8 +9,8 @@ use borrow.Author.Tests.{eqb-true}
 use Rattle.circuit.proofs.Judging.{wires_pass}
 use Rattle.circuit.specs.Gate.{gate, gates_of}
 use Rattle.circuit.specs.Limits.{gate_bytes, max_gates}
-use Rattle.circuit.specs.declared.Reply.{Reply}
-use Rattle.circuit.specs.declared.Reply.TheVariants.{Done, Refused}
+use Rattle.circuit.specs.Replies.{Reply}
+use Rattle.circuit.specs.Replies.{Done, Refused}
 use Rattle.text.proofs.HexDigits.{value_lt}
 use Rattle.text.proofs.LineForms.{and_both, first_formed_lem, starts}
 use Rattle.text.proofs.TextFaults.{count_done, done_few, done_formed, done_next, fault_from, gates_done, one_formed_done}

@@ -9,7 +9,7 @@ use lib.ListN.{drop, drop_of_length-le, get_or, length, take}
 use lib.Seq.{drop-cons, length-sets, sets}
 use Rattle.circuit.proofs.Placing.{sets_append, sets_placed}
 use Rattle.circuit.specs.Limits.{gate_bytes, max_gates, max_list_bytes}
-use Rattle.circuit.specs.declared.Reply.TheVariants.{Done}
+use Rattle.circuit.specs.Replies.{Done}
 use Rattle.text.proofs.LineForms.{formed_lines, formed_long}
 use Rattle.text.proofs.TextFaults.{done_few, done_formed, done_next, fault_from}
 use Rattle.text.specs.Limits.{gate_digits, gate_line_bytes, wires_line_bytes}

@@ -12,8 +12,8 @@ use borrow.Author.Tests.{eq-eqb, le-ltb, lt-leb, lt-ltb, ne_eqb}
 use Rattle.circuit.proofs.Judging.{refuse_done, refused, wires_well}
 use Rattle.circuit.specs.Faults.{list_length, malformed, refuse, wire_count, wires_fault}
 use Rattle.circuit.specs.Limits.{max_gates, max_wires}
-use Rattle.circuit.specs.declared.Reply.{Reply}
-use Rattle.circuit.specs.declared.Reply.TheVariants.{Done, Refused}
+use Rattle.circuit.specs.Replies.{Reply}
+use Rattle.circuit.specs.Replies.{Done, Refused}
 use Rattle.text.proofs.LineForms.{formed_lines, formed_long, some_line}
 use Rattle.text.specs.Limits.{gate_digits, gate_line_bytes, wires_digits, wires_line_bytes}
 use Rattle.text.specs.Lines.{Line, byte_at, decoded, ended, first_formed, formed, lines_decoded, lines_of}

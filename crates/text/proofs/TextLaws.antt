@@ -16,8 +16,8 @@ use Rattle.circuit.specs.Gate.{Gate, gate, gates_of}
 use Rattle.circuit.specs.Lent.{KeptFrom}
 use Rattle.circuit.specs.Limits.{gate_bytes, max_gates, max_list_bytes, max_wires, max_written_gates}
 use Rattle.circuit.specs.Replies.{number_of}
-use Rattle.circuit.specs.declared.Reply.{Reply}
-use Rattle.circuit.specs.declared.Reply.TheVariants.{Done as Judged, Refused as Found}
+use Rattle.circuit.specs.Replies.{Reply}
+use Rattle.circuit.specs.Replies.{Done as Judged, Refused as Found}
 use Rattle.text.proofs.Deciding.{text_decided}
 use Rattle.text.proofs.LineForms.{first_formed_lem}
 use Rattle.text.proofs.ReadsWritten.{never, reads_written}

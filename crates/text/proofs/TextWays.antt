@@ -7,8 +7,8 @@ use lib.ListN.{length}
 use Rattle.circuit.proofs.Judging.{refuse_done, refused_not_done, short_pass}
 use Rattle.circuit.specs.Faults.{call_reply, refuse, short_fault}
 use Rattle.circuit.specs.Limits.{gate_bytes, max_list_bytes}
-use Rattle.circuit.specs.declared.Reply.{Reply}
-use Rattle.circuit.specs.declared.Reply.TheVariants.{Done, Refused}
+use Rattle.circuit.specs.Replies.{Reply}
+use Rattle.circuit.specs.Replies.{Done, Refused}
 use Rattle.text.proofs.Storing.{bytes_from}
 use Rattle.text.proofs.TextFaults.{fault_from, gates_done, one_formed_done, one_long, read_circuit}
 use Rattle.text.specs.Entry.{ReadText, count_of, fault_said, gates_said, read_into, read_text_fault, told, wires_of, wires_said}

@@ -11,7 +11,7 @@ use Rattle.circuit.proofs.Judging.{wires_well}
 use Rattle.circuit.specs.Faults.{refuse, wires_fault}
 use Rattle.circuit.specs.Gate.{Gate, gate, gates_of}
 use Rattle.circuit.specs.Limits.{gate_bytes, max_gates}
-use Rattle.circuit.specs.declared.Reply.TheVariants.{Done}
+use Rattle.circuit.specs.Replies.{Done}
 use Rattle.text.proofs.HexDigits.{digit_value, value_digit, value_lt}
 use Rattle.text.proofs.LineForms.{first_formed_lem, first_line, starts}
 use Rattle.text.proofs.TextFaults.{by_count, read_circuit, right}

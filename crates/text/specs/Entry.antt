@@ -3,8 +3,8 @@ use Rattle.std.specs.Prelude.{List, ◌≡◌, ◌/◌, ℕ, length}
 use Rattle.circuit.specs.Faults.{call_reply, refuse, short_fault}
 use Rattle.circuit.specs.Limits.{gate_bytes, max_list_bytes}
 use Rattle.circuit.specs.Lent.{placed}
-use Rattle.circuit.specs.declared.Reply.{Reply}
-use Rattle.circuit.specs.declared.Reply.TheVariants as reply
+use Rattle.circuit.specs.Replies.{Reply}
+use Rattle.circuit.specs.Replies as reply
 use Rattle.text.specs.Lines.{lines_of}
 use Rattle.text.specs.Text.{Text, circuit, faulty, lines_fault, read_text, unless_refused}
 use Rattle.text.specs.declared.TextReply.{TextReply}

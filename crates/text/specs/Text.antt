@@ -2,8 +2,8 @@
 use Rattle.std.specs.Prelude.{cond, List, [], ◌∷◌, ◌≡◌, ◌%◌, ◌+◌, ◌<◌, ◌≤◌, suc, ℕ, ltb, get_or, length}
 use Rattle.circuit.specs.Faults.{list_length, malformed, refuse, wires_fault}
 use Rattle.circuit.specs.Limits.{gate_bytes, max_gates, max_list_bytes, max_wires}
-use Rattle.circuit.specs.declared.Reply.{Reply}
-use Rattle.circuit.specs.declared.Reply.TheVariants.{Done, Refused}
+use Rattle.circuit.specs.Replies.{Reply}
+use Rattle.circuit.specs.Replies.{Done, Refused}
 use Rattle.text.specs.Limits.{byte_values, gate_digits, wires_digits}
 use Rattle.text.specs.Lines.{Line, formed, line_decoded, lines_of, lines_decoded}
 

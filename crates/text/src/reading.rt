@@ -2,7 +2,7 @@
 ghost use Rattle.std.specs.Prelude.{◌≡◌, ◌+◌, ◌<◌, ◌≤◌, drop, length};
 ghost use Rattle.std.proofs.lemmas.List.Edits.{sets};
 ghost use Rattle.circuit.specs.Limits.{gate_bytes, max_list_bytes};
-ghost use Rattle.circuit.specs.declared.Reply.TheVariants.{Done};
+ghost use Rattle.circuit.specs.Replies.{Done};
 ghost use Rattle.text.specs.Entry.{read_text_fault};
 ghost use Rattle.text.specs.Limits.{gate_digits, wires_line_bytes};
 ghost use Rattle.text.specs.Lines.{byte_at, first_formed, gate_decoded_at, lines_decoded, lines_of};

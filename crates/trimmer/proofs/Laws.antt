@@ -11,8 +11,8 @@ use Rattle.circuit.specs.Gate.{gates_of}
 use Rattle.circuit.specs.Lent.{front_bytes, front_gates}
 use Rattle.circuit.specs.Limits.{gate_bytes, log_cells, write_bytes}
 use Rattle.circuit.specs.Replies.{number_of}
-use Rattle.circuit.specs.declared.Reply.TheVariants as reply
-use Rattle.circuit.specs.declared.Reply.{Reply}
+use Rattle.circuit.specs.Replies as reply
+use Rattle.circuit.specs.Replies.{Reply}
 use Rattle.trimmed.specs.Trimmed.{Trimmed}
 use Rattle.trimmed.specs.declared.Counts.{Counts}
 use Rattle.written.proofs.Laws.{rack_runs_wrote}

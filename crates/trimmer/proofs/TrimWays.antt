@@ -7,8 +7,8 @@ use lib.ListN.{length}
 use Rattle.circuit.proofs.Judging.{list_done, list_number, or_pass, short_pass}
 use Rattle.circuit.specs.Faults.{short_fault}
 use Rattle.circuit.specs.Limits.{log_cells, write_bytes}
-use Rattle.circuit.specs.declared.Reply.{Reply}
-use Rattle.circuit.specs.declared.Reply.TheVariants as reply
+use Rattle.circuit.specs.Replies.{Reply}
+use Rattle.circuit.specs.Replies as reply
 use Rattle.trimmed.specs.declared.Counts.{Counts}
 use Rattle.trimmer.specs.Entry.{DoneWith, TrimLeft, TrimList, Trimmable, no_counts, trim_lent, verdict}
 use Rattle.trimmer.specs.declared.TrimReply.TheVariants.{Done, Refused}

@@ -6,8 +6,8 @@ use Rattle.circuit.specs.Lent.{KeptFrom, front_gates}
 use Rattle.circuit.specs.Limits.{gate_bytes, log_cells, max_wires, move_cells, parities, write_bytes}
 use Rattle.circuit.specs.Read.{Reading, read, with_weights}
 use Rattle.circuit.specs.Replies.{number_of}
-use Rattle.circuit.specs.declared.Reply.TheVariants as reply
-use Rattle.circuit.specs.declared.Reply.{Reply}
+use Rattle.circuit.specs.Replies as reply
+use Rattle.circuit.specs.Replies.{Reply}
 use Rattle.phase.specs.NewWeights.{new_weights}
 use Rattle.trimmed.specs.Trimmed.{Trimmed, odd_set_of, weights_of}
 use Rattle.trimmed.specs.declared.Counts.{Counts}

@@ -10,7 +10,7 @@ use Rattle.circuit.specs.Faults.{call_reply}
 use Rattle.circuit.specs.Limits.{max_wires, pair_bytes, parities, table_bytes, triple_bytes}
 use Rattle.circuit.specs.Sound.{SoundMarks, SoundWeights}
 use Rattle.circuit.specs.TableFaults.{marks_fault, weights_fault}
-use Rattle.circuit.specs.declared.Reply.TheVariants.{Done}
+use Rattle.circuit.specs.Replies.{Done}
 use Rattle.phase.proofs.Laws.{odd_set_has_signature, odd_set_is_sound}
 use Rattle.phase.specs.Coefficients.{c, l, q}
 use Rattle.phase.specs.Signature.{SameSignature}

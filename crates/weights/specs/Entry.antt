@@ -5,7 +5,7 @@ use Rattle.circuit.specs.Limits.{max_wires, pair_bytes, table_bytes, triple_byte
 use Rattle.circuit.specs.OddSet.{odd_set}
 use Rattle.circuit.specs.Replies.{after, number_of}
 use Rattle.circuit.specs.TableFaults.{call_fault, weights_fault}
-use Rattle.circuit.specs.declared.Reply.{Reply}
+use Rattle.circuit.specs.Replies.{Reply}
 use Rattle.weights.specs.Lists.{c_list, l_list, q_list}
 
 -- ---- odd_set

@@ -14,8 +14,8 @@ use Rattle.circuit.specs.Sound.{SoundReading}
 use Rattle.gf2.proofs.Sum.{delta-other, sum-add, sum-ext, sum-single, sum-zero}
 use Rattle.gf2.specs.Sum.{delta, sum}
 use Rattle.written.specs.Spelling.{gates_of_kind, kind_here, kinds_at, occurs}
-use Rattle.circuit.specs.declared.gates.Kind.{Kind}
-use Rattle.circuit.specs.declared.gates.Kind.TheVariants.{Cnot, Phase, Unknown}
+use Rattle.circuit.specs.Gate.{Kind}
+use Rattle.circuit.specs.Gate.{Cnot, Phase, Unknown}
 
 occurs-append : (kind : ℕ) (xs ys : List ℕ) → occurs kind (xs ++ ys) ≡ occurs kind xs + occurs kind ys
 unfolding occurs

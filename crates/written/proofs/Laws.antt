@@ -10,7 +10,7 @@ use Rattle.circuit.specs.Lent.{reading_lent}
 use Rattle.circuit.specs.Limits.{max_wires, row_cells}
 use Rattle.circuit.specs.Read.{Reading, read, start}
 use Rattle.circuit.specs.Sound.{SoundRows, SoundWeights}
-use Rattle.circuit.specs.declared.gates.Kind.TheVariants.{Phase}
+use Rattle.circuit.specs.Gate.{Phase}
 use Rattle.gf2.specs.Sum.{sum}
 use Rattle.written.proofs.Checks.{fault_ready, ready_faultless}
 use Rattle.written.proofs.KindCounts.{kinds_total}

@@ -9,8 +9,8 @@ use lib.Dec.{T as Holds, eqb, eqb→eq}
 use Rattle.circuit.proofs.GateKinds.{known_kind}
 use Rattle.circuit.specs.Faults.{AllWellFormed, KindWellFormed, WellFormed}
 use Rattle.circuit.specs.Gate.{Gate, Z, gate, kind_of, last_kind}
-use Rattle.circuit.specs.declared.gates.Kind.{Kind}
-use Rattle.circuit.specs.declared.gates.Kind.TheVariants.{Cnot, Phase, Unknown}
+use Rattle.circuit.specs.Gate.{Kind}
+use Rattle.circuit.specs.Gate.{Cnot, Phase, Unknown}
 use Rattle.gf2.proofs.Every.{every-at}
 use Rattle.gf2.specs.Every.{every}
 use Rattle.gf2.specs.Sum.{delta}

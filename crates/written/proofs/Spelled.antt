@@ -22,8 +22,8 @@ use Rattle.gf2.specs.Every.{every}
 use Rattle.gf2.specs.Sum.{delta}
 use Rattle.gf2.specs.Table.{add_at}
 use Rattle.written.specs.Spelling.{kinds_at, occurs, spell, spelling}
-use Rattle.circuit.specs.declared.gates.Kind.{Kind}
-use Rattle.circuit.specs.declared.gates.Kind.TheVariants.{Cnot, Phase, Unknown}
+use Rattle.circuit.specs.Gate.{Kind}
+use Rattle.circuit.specs.Gate.{Cnot, Phase, Unknown}
 
 -- ---- the rule of a weight's spelling
 

@@ -28,7 +28,7 @@ use Rattle.written.proofs.Spelled.{occurs-none, right}
 use Rattle.written.specs.Wrote.{Wrote}
 use Rattle.written.specs.Spelling.{Together, gates_of_kind, kinds_at, occurs, spelled_gates, spelling}
 use Rattle.written.specs.Writing.{write_list, write_phases, write_rows}
-use Rattle.circuit.specs.declared.gates.Kind.TheVariants.{Phase}
+use Rattle.circuit.specs.Gate.{Phase}
 
 module _ (N n : ℕ) (fit : n ≤ N) (w rows : List ℕ) (sw : SoundWeights (2 ^ N) n w) (sr : SoundRows N n rows) where
   gs : List Gate

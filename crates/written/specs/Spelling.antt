@@ -6,8 +6,8 @@ use Rattle.gf2.specs.Sum.{delta, sum}
 use Rattle.circuit.specs.Gate.{CNOT, Gate, S, S_DAGGER, T, T_DAGGER, gate, kind_of}
 use Rattle.circuit.specs.Read.{Reading, read_from, read_gate, row}
 use Rattle.circuit.specs.Sound.{weight}
-use Rattle.circuit.specs.declared.gates.Kind.{Kind}
-use Rattle.circuit.specs.declared.gates.Kind.TheVariants.{Cnot, Phase, Unknown}
+use Rattle.circuit.specs.Gate.{Kind}
+use Rattle.circuit.specs.Gate.{Cnot, Phase, Unknown}
 
 -- ---- the spelling
 

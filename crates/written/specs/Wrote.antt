@@ -7,7 +7,7 @@ use Rattle.circuit.specs.Limits.{written_gates}
 use Rattle.circuit.specs.OddSet.{member_count, odd_set}
 use Rattle.circuit.specs.Read.{Reading, read, start}
 use Rattle.circuit.specs.Sound.{weight}
-use Rattle.circuit.specs.declared.gates.Kind.TheVariants.{Phase}
+use Rattle.circuit.specs.Gate.{Phase}
 use Rattle.written.specs.Spelling.{Together, gates_of_kind, kinds_at, spelled_gates, spelling}
 
 -- a list of gates written for the reading r on n wires, of N at most
