@@ -15,7 +15,7 @@ use std::fs::Files;
 use std::io::{Read, Write};
 use std::{fs, io};
 use text::limits::{REFUSED_LINE_BYTES, TEXT_BYTES};
-use verdict::{Verdict, line_bytes, put_verdict};
+use verdict::{Named, put_verdict};
 
 // The program's own name, and two files.
 const ARGUMENTS: usize = 3;
@@ -151,9 +151,8 @@ fn reply_to<R: Env, W: Write, E: Write>(
 {
     let mut line = [0u8; REFUSED_LINE_BYTES];
     let said = put_verdict(first, second, &mut line);
-    let bytes = line_bytes(said);
-    let written = write_line(&line[..bytes], out, errors);
-    name_files(rt, said, errors);
+    let written = write_line(&line[..said.bytes], out, errors);
+    name_files(rt, said.named, errors);
     written
 }
 
@@ -169,12 +168,12 @@ fn write_line<W: Write, E: Write>(line: &[u8], out: &mut W, errors: &mut E) -> i
 }
 
 // The file that is refused, or both.
-fn name_files<R: Env, E: Write>(rt: &R, said: Verdict, errors: &mut E) {
-    match said {
-        Verdict::Told { .. } => {}
-        Verdict::First { .. } => name_refused(rt, 1, errors),
-        Verdict::Second { .. } => name_refused(rt, 2, errors),
-        Verdict::Wires => name_both(rt, errors),
+fn name_files<R: Env, E: Write>(rt: &R, named: Named, errors: &mut E) {
+    match named {
+        Named::Neither => {}
+        Named::First => name_refused(rt, 1, errors),
+        Named::Second => name_refused(rt, 2, errors),
+        Named::Both => name_both(rt, errors),
     }
 }
 

@@ -7,7 +7,7 @@ ghost use Rattle.output.specs.Told.{TellsFailure};
 ghost use Rattle.trim.specs.Replies.{LeftBy, Replies, RepliesInPart};
 ghost use Rattle.trim.specs.Streams.{name_of};
 
-use answer::{Answered, answer};
+use answer::answer;
 use input::read_input;
 use output::{fail, write_all};
 use std::io;
@@ -43,11 +43,9 @@ fn reply_to<W: Write>(text: &[u8], out: &mut W) -> io::Result<()>
     ensures part { RepliesInPart text.now (W.contents out.old) (W.contents out.new) }
 {
     let mut reply = [0u8; REPLY_BYTES];
-    match answer(text, &mut reply) {
-        Answered::Done { bytes } => write_all(out, &reply[..bytes]),
-        // There is room for every reply.
-        Answered::Refused { .. } => unreachable!(),
-    }
+    // There is room for every reply.
+    let bytes = answer(text, &mut reply).unwrap();
+    write_all(out, &reply[..bytes])
 }
 
 // One line: which stream failed, and the reason.

@@ -1,12 +1,12 @@
 -- What the writer gets is the first part of the line.
-use Rattle.std.proofs.Common.{ap, rules, take}
+use Rattle.std.proofs.Common.{refl, rules, take}
 use Rattle.same.proofs.reply_to.Goals as goal
 
 pub returns-clause-part : goal.returns-clause-part
 returns-clause-part g c =
     let left = c.put_verdict-said.new.out in
     let put = c.write_line-written.ensures.part in (
-      take c.line_bytes-bytes.result left,
+      take c.put_verdict-said.result.bytes left,
       put.0,
       record {
         was = _;
@@ -14,7 +14,7 @@ returns-clause-part g c =
         said = c.put_verdict-said.result;
         room = search rules;
         verdict = c.put_verdict-said.ensures;
-        stands = ap (λ n. take n left) c.line_bytes-bytes.ensures;
+        stands = refl;
       },
       put.1,
     )
