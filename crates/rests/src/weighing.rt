@@ -78,7 +78,7 @@ impl SumTable<'_> {
         ensures at_most { result ≤ most_rest * self.now.n }
     {
         let mut t = 0;
-        // Not `(0..self.n).map(..).sum()`: that the sum fits and what it is were tried, and did not close.
+        // Not `(0..self.n).map(..).sum()`: tried, and the proof that the sum fits, and of what it is, did not close.
         for j in 0..self.n {
             t += self.pair_with(p, 1 << j);
         }

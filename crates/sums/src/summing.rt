@@ -6,7 +6,7 @@ ghost use Rattle.sums.specs.Summing.{Added, InBlocks, SumsTo, WireAdded};
 
 use circuit::limits::Weight;
 
-// One wire after the other.
+// One wire after the other: a wire is no more than its number, so that the loop goes over numbers.
 pub fn put_sums(n: usize, s: &mut [Weight])
     requires { (n ≤ max_wires) × (length s.old ≡ 2 ^ n) × Below 8 s.old }
     ensures { SumsTo n s.old s.new }
