@@ -12,6 +12,7 @@ pub fn read_input<R: Read>(from: &mut R, buf: &mut [u8]) -> io::Result<usize>
     ensures within { Within buf.new result }
     ensures takes { Takes (R.remaining from.old) (R.remaining from.new) buf.new result }
 {
+    // What was read is counted: it is the answer, and a slice of what is left would only stand beside it.
     let mut done: usize = 0;
     while done < buf.len() {
         let bytes = from.read(&mut buf[done..])?;
