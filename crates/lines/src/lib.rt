@@ -56,7 +56,7 @@ fn gate_line(gate: Gate) -> [u8; GATE_LINE_BYTES]
     [c, d, e, f, g, h, NEWLINE]
 }
 
-// The gates of a list one after the other; gives how many bytes they take.
+// The gates of a list one after the other; gives how many bytes they take. They are put by their places, as in `store_gates` of `text`.
 pub fn put_gates(list: &[u8], out: &mut [u8]) -> usize
     requires { gate_line_bytes * (length list.now / gate_bytes) ≤ length out.old }
     ensures { Writes out.old 0 (gate_lines (gates_of list.now)) out.new result }

@@ -6,6 +6,7 @@ use crate::limits::BYTE_VALUES;
 
 pub const NEWLINE: u8 = b'\n';
 
+// Lower case alone: `is_ascii_hexdigit`, and `to_digit` below, take upper case too.
 #[tactic(auto, using(std::proofs::lemmas::Bool::Decides::nat_tests), unfolding(crate::specs::Hex::is_digit))]
 pub fn is_digit(b: u8) -> bool
     ensures { result ≡ is_digit b }

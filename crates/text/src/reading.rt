@@ -63,7 +63,8 @@ fn line_formed(text: &[u8], digits: usize) -> bool
     text.len() > digits && text[digits] == NEWLINE && text[..digits].iter().all(|&b| is_digit(b))
 }
 
-// Stores the gates of lines without a fault from the start of what is lent, and gives their number.
+// Stores the gates of lines without a fault from the start of what is lent, and gives their number. They are put by their places, since
+// `as_chunks_mut` says nothing of what the slice ends as.
 pub fn store_gates(lines: &[u8], gates: &mut [u8]) -> usize
     requires { (max_list_bytes ≤ length gates.old) × (gates_fault 0 (lines_of lines.now) ≡ Done) }
     ensures { Stores gates.old (lines_decoded (lines_of lines.now)) gates.new result }

@@ -22,7 +22,7 @@ use Rattle.text.specs.Limits.{refused_line_bytes, text_bytes}
 use Rattle.text.specs.Text.{Text, circuit, read_text}
 use Rattle.text.specs.Written.{differ_line, refused_line, same_line}
 use Rattle.verdict.specs.Verdicts.{Prints, VerdictOn, bytes_of, compared, first_faulty, line_of, other_wires, second_faulty}
-use Rattle.verdict.specs.declared.Named.{Named}
+use Rattle.verdict.specs.declared.Texts.{Texts}
 use Rattle.verdict.specs.declared.Verdict.{Verdict}
 
 -- the first bytes of each text decide
@@ -44,7 +44,7 @@ line_short (Ok Same) = omega arith
 line_short (Ok Differ) = omega arith
 line_short (Err refusal) = omega arith
 
-shows : {line was left : List ℕ} {named : Named} {v : Verdict} → Prints line named was left v → length line ≤ length was → Shows v left line
+shows : {line was left : List ℕ} {named : Texts} {v : Verdict} → Prints line named was left v → length line ≤ length was → Shows v left line
 shows {line} {was} {left} {named} {v} p h =
     let k : bytes_of v ≡ length line = ap bytes_of p.tells in
     let fits : bytes_of v ≤ length left = omega (arith, ap length p.stands, (placed_kept was line h).long) in

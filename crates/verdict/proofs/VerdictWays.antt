@@ -1,8 +1,7 @@
 -- One law for each way out of the functions of this crate: what the text reader and `compare` reply, and the line written for it.
 use mathlib.Core.List.{List}
-use mathlib.Core.Path.{◌∙◌, ◌≡◌, ap, subst}
+use mathlib.Core.Path.{◌≡◌, subst}
 use Prim.Native.Nat.{◌*◌, ◌≤◌, ℕ}
-use native.Mathlib.Nat.{zero-add}
 use lib.ListN.{length, take}
 use Rattle.std.specs.Prelude.{Err, Ok, Result}
 use Rattle.circuit.specs.Limits.{gate_bytes, max_list_bytes}
@@ -10,15 +9,14 @@ use Rattle.circuit.specs.Told.{number}
 use Rattle.circuit.specs.declared.faults.Refusal.{Refusal}
 use Rattle.compare.specs.Entry.{ComparesLists}
 use Rattle.compare.specs.declared.Compared.{Compared}
-use Rattle.lines.specs.Placed.{Writes}
 use Rattle.text.proofs.TextLaws.{circuit_said, fault_said_lem}
 use Rattle.text.specs.Entry.{ReadText}
 use Rattle.text.specs.Text.{Text, circuit, read_text}
 use Rattle.text.specs.Written.{refused_line}
 use Rattle.text.specs.declared.Circuit.{Circuit}
 use Rattle.verdict.specs.Verdicts.{Prints, VerdictOn, compared, first_faulty, line_of, named_of, second_faulty}
-use Rattle.verdict.specs.declared.Named.{Named}
-use Rattle.verdict.specs.declared.Named.TheVariants.{First, Second}
+use Rattle.verdict.specs.declared.Texts.{Texts}
+use Rattle.verdict.specs.declared.Texts.TheVariants.{First, Second}
 use Rattle.verdict.specs.declared.Verdict.{Verdict}
 
 -- ---- the texts
@@ -48,7 +46,7 @@ module _ {t gates gates' : List ℕ} {r : Result Circuit Refusal} (p : ReadText 
 
 -- ---- two circuits
 
-pub same_wires : {n m : ℕ} {first second line was left : List ℕ} {reply : Result Compared Refusal} {named : Named} {v : Verdict}
+pub same_wires : {n m : ℕ} {first second line was left : List ℕ} {reply : Result Compared Refusal} {named : Texts} {v : Verdict}
     (is : Result Compared Refusal) → n ≡ m → ComparesLists n first second reply → reply ≡ is → line ≡ line_of is → named ≡ named_of is
     → Prints line named was left v → VerdictOn (circuit n first) (circuit m second) was left v
 same_wires {n} {m} {first} {second} is e c told says names w =

@@ -9,8 +9,8 @@ use Rattle.compare.specs.declared.Compared.{Compared}
 use Rattle.compare.specs.declared.Compared.TheVariants.{Differ, Same}
 use Rattle.text.specs.Text.{Text, circuit, faulty}
 use Rattle.text.specs.Written.{differ_line, refused_line, same_line}
-use Rattle.verdict.specs.declared.Named.{Named}
-use Rattle.verdict.specs.declared.Named.TheVariants.{Both, First, Neither, Second}
+use Rattle.verdict.specs.declared.Texts.{Texts}
+use Rattle.verdict.specs.declared.Texts.TheVariants.{Both, First, Neither, Second}
 use Rattle.verdict.specs.declared.Verdict.{Verdict}
 
 -- the line for a reply of `compare`
@@ -24,16 +24,16 @@ abbrev pub bytes_of : Verdict → ℕ
 bytes_of v = v.bytes
 
 -- the list that has a fault of that number
-abbrev pub at_fault : ℕ → Named
+abbrev pub at_fault : ℕ → Texts
 at_fault number = cond (eqb number second_list) Second First
 
 -- what is named beside the line for a reply
-abbrev pub named_of : Result Compared Refusal → Named
+abbrev pub named_of : Result Compared Refusal → Texts
 named_of (Ok compared) = Neither
 named_of (Err refusal) = at_fault (number refusal.fault)
 
 -- the line stands at the start of what was lent, the rest is as it was, and v tells how many bytes it has and what is named beside it
-pub record Prints (line : List ℕ) (named : Named) (was left : List ℕ) (v : Verdict) : Type 0 where
+pub record Prints (line : List ℕ) (named : Texts) (was left : List ℕ) (v : Verdict) : Type 0 where
   pub tells : v ≡ record { bytes = length line; named = named }
   pub stands : left ≡ placed was 0 line
 

@@ -16,7 +16,7 @@ use text::read_text;
 
 // The texts that are to be named beside the line.
 #[derive(Clone, Copy, Debug, PartialEq, Eq)]
-pub enum Named {
+pub enum Texts {
     // The circuits were compared.
     Neither,
     // The line is the refusal of the first text, or of its gates.
@@ -31,7 +31,7 @@ pub enum Named {
 #[derive(Clone, Copy, Debug, PartialEq, Eq)]
 pub struct Verdict {
     pub bytes: usize,
-    pub named: Named,
+    pub named: Texts,
 }
 
 // Writes the line for two texts from the start of what is lent.
@@ -42,7 +42,7 @@ pub fn put_verdict(first: &[u8], second: &[u8], out: &mut [u8]) -> Verdict
     let mut gates = [0u8; MAX_LIST_BYTES];
     match read_text(first, &mut gates) {
         Ok(read) => put_beside(read.wires, &gates[..GATE_BYTES * read.gates], second, out),
-        Err(refusal) => put_line(&refused_line(refusal), Named::First, out),
+        Err(refusal) => put_line(&refused_line(refusal), Texts::First, out),
     }
 }
 
@@ -54,7 +54,7 @@ fn put_beside(n: usize, list: &[u8], second: &[u8], out: &mut [u8]) -> Verdict
     let mut gates = [0u8; MAX_LIST_BYTES];
     match read_text(second, &mut gates) {
         Ok(read) => put_two(n, list, read.wires, &gates[..GATE_BYTES * read.gates], out),
-        Err(refusal) => put_line(&refused_line(refusal), Named::Second, out),
+        Err(refusal) => put_line(&refused_line(refusal), Texts::Second, out),
     }
 }
 
@@ -66,18 +66,18 @@ fn put_two(n: usize, first: &[u8], m: usize, second: &[u8], out: &mut [u8]) -> V
     if n != m {
         return Verdict {
             bytes: 0,
-            named: Named::Both,
+            named: Texts::Both,
         };
     }
     match compare(n, first, second) {
-        Ok(Compared::Same) => put_line(b"same\n", Named::Neither, out),
-        Ok(Compared::Differ) => put_line(b"differ\n", Named::Neither, out),
+        Ok(Compared::Same) => put_line(b"same\n", Texts::Neither, out),
+        Ok(Compared::Differ) => put_line(b"differ\n", Texts::Neither, out),
         Err(refusal) => put_line(&refused_line(refusal), at_fault(refusal.fault), out),
     }
 }
 
 // A line, and what is named beside it.
-fn put_line(line: &[u8], named: Named, out: &mut [u8]) -> Verdict
+fn put_line(line: &[u8], named: Texts, out: &mut [u8]) -> Verdict
     requires { length line.now ≤ length out.old }
     ensures { Prints line.now named out.old out.new result }
 {
@@ -88,11 +88,11 @@ fn put_line(line: &[u8], named: Named, out: &mut [u8]) -> Verdict
 }
 
 // Which list has the fault that `compare` finds.
-fn at_fault(fault: Fault) -> Named
+fn at_fault(fault: Fault) -> Texts
     ensures { result ≡ at_fault (number fault) }
 {
     match fault {
-        Fault::SecondList => Named::Second,
-        _ => Named::First,
+        Fault::SecondList => Texts::Second,
+        _ => Texts::First,
     }
 }
