@@ -6,12 +6,16 @@ use mathlib.Core.Path.{◌∙◌, ◌≡◌, ap, refl, sym}
 use Prim.Native.Nat.{◌*◌, ◌+◌, ◌<◌, ◌≤◌, ℕ}
 use native.Mathlib.Omega.{arith}
 use lib.ListN.{drop, length, take}
+use Rattle.std.specs.Prelude.{Err, Ok, Result}
 use Rattle.circuit.proofs.Judging.{after_refusal, done_number, refusal_number, refuse_done, refused, refused_not_done}
+use Rattle.circuit.proofs.Results.{numbered}
 use Rattle.circuit.specs.Faults.{bad_move, refuse}
 use Rattle.circuit.specs.Limits.{max_members, move_cells}
+use Rattle.circuit.specs.Replies as reply
 use Rattle.circuit.specs.Replies.{after, number_of}
 use Rattle.circuit.specs.TableFaults.{Marked}
-use Rattle.circuit.specs.Replies as reply
+use Rattle.circuit.specs.Told.{number, told}
+use Rattle.circuit.specs.declared.faults.Refusal.{Refusal}
 use Rattle.moves.proofs.Deciding.{move_is, move_yes}
 use Rattle.moves.proofs.Laws.{move_differs_few}
 use Rattle.moves.proofs.Logs.{cells_checked, cells_say, move_short, move_whole}
@@ -21,9 +25,7 @@ use Rattle.moves.specs.Log.{LegalCells, as_cells, move_at, set_of, z_of}
 use Rattle.moves.specs.Move.{Legal}
 use Rattle.legality.proofs.Conditions.{set-few}
 use Rattle.carry.proofs.Ways.{call_clear, verdict}
-use Rattle.carry.specs.Entry.{CarriesOut, carry_fault, carry_reply, differ_of, told}
-use Rattle.carry.specs.declared.Moved.{Moved}
-use Rattle.carry.specs.declared.Moved.TheVariants.{Done, Refused}
+use Rattle.carry.specs.Entry.{CarriesOut, carry_fault, carry_reply, differ_of}
 
 -- ---- what the cells say
 
@@ -65,35 +67,35 @@ carry_number n marks cells {number} {place} =
     judged true e = done_number e
     judged false e = let s : bad_move ≡ number = cc in omega arith
 
-module _ (n : ℕ) (marks cells marks' : List ℕ) (r : Moved) (promise : CarriesOut n marks cells marks' r) where
+module _ (n : ℕ) (marks cells marks' : List ℕ) (r : Result ℕ Refusal) (promise : CarriesOut n marks cells marks' r) where
   -- a refusal leaves the marks as they were
-  pub refusal_leaves : (number place : ℕ) → r ≡ Refused number place → marks' ≡ marks
-  refusal_leaves number place e =
-      promise.marks_left ∙ ap (λ (v : Moved). after (number_of (told v)) (carry_out marks (z_of cells) (set_of cells)) marks) e
-      ∙ sym (after_refusal number _ marks (carry_number n marks cells (sym promise.reply ∙ ap told e)))
+  pub refusal_leaves : (refusal : Refusal) → r ≡ Err refusal → marks' ≡ marks
+  refusal_leaves refusal e =
+      promise.marks_left ∙ ap (λ (v : Result ℕ Refusal). after (number_of (told v)) (carry_out marks (z_of cells) (set_of cells)) marks) e
+      ∙ sym (after_refusal (number refusal.fault) _ marks (numbered refusal.fault))
 
   -- the first fault of the call, with place 0
   pub refusal_says : carry_fault n marks ≢ 0 → told r ≡ reply.Refused (carry_fault n marks) 0
   refusal_says h = promise.reply ∙ refused (carry_fault n marks) 0 _ h
 
   -- a move that is done was legal
-  pub done_legal : (differ : ℕ) → r ≡ Done differ → Marked n marks × LegalCells max_members n marks cells
+  pub done_legal : (differ : ℕ) → r ≡ Ok differ → Marked n marks × LegalCells max_members n marks cells
   done_legal differ e = (carry_accepts n marks cells).0 (sym promise.reply ∙ ap told e)
 
   -- as many marks differ as the move changes
-  pub done_differ : (differ : ℕ) → r ≡ Done differ → differ ≡ differing marks (carry_out marks (z_of cells) (set_of cells))
+  pub done_differ : (differ : ℕ) → r ≡ Ok differ → differ ≡ differing marks (carry_out marks (z_of cells) (set_of cells))
   done_differ differ e =
       sym (ap differ_of e) ∙ promise.differ
       ∙ ap (differing marks)
-      (promise.marks_left ∙ ap (λ (v : Moved). after (number_of (told v)) (carry_out marks (z_of cells) (set_of cells)) marks) e)
+      (promise.marks_left ∙ ap (λ (v : Result ℕ Refusal). after (number_of (told v)) (carry_out marks (z_of cells) (set_of cells)) marks) e)
 
   -- at most two for each of Y, and one more
-  pub done_few : (differ : ℕ) → r ≡ Done differ → differ ≤ 2 * length (set_of cells) + 1
+  pub done_few : (differ : ℕ) → r ≡ Ok differ → differ ≤ 2 * length (set_of cells) + 1
   done_few differ e =
       rw (done_differ differ e) (move_differs_few marks (done_legal differ e).0.sound.none (z_of cells) (set_of cells))
 
   -- and Y has at most max_members
-  pub done_under : (differ : ℕ) → r ≡ Done differ → differ ≤ 2 * max_members + 1
+  pub done_under : (differ : ℕ) → r ≡ Ok differ → differ ≤ 2 * max_members + 1
   done_under differ e =
       omega (arith, done_few differ e, set-few ((cells_checked max_members n marks cells).0 (done_legal differ e).1).0)
 

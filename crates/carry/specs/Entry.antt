@@ -1,29 +1,24 @@
 -- The entry `carry_out`: its reply, with how many marks differ, and what it leaves in the lent marks, for sound and faulty arguments alike.
-use Rattle.std.specs.Prelude.{cond, List, ◌⊎◌, ◌≡◌, ◌+◌, ◌≤◌, ℕ, length}
+use Rattle.std.specs.Prelude.{cond, Err, List, Ok, Result, ◌⊎◌, ◌≡◌, ◌+◌, ◌≤◌, ℕ, length}
 use Rattle.circuit.specs.Faults.{bad_move, lent_fault, refuse}
 use Rattle.circuit.specs.Limits.{max_members, parities, table_bytes}
 use Rattle.circuit.specs.OddSet.{member_count}
 use Rattle.circuit.specs.Replies.{after, number_of, place_of}
-use Rattle.circuit.specs.Sound.{SoundMarks}
 use Rattle.circuit.specs.Replies.{Reply}
 use Rattle.circuit.specs.Replies as reply
+use Rattle.circuit.specs.Sound.{SoundMarks}
+use Rattle.circuit.specs.TableFaults.{call_fault, marks_fault}
+use Rattle.circuit.specs.Told.{told}
+use Rattle.circuit.specs.declared.faults.Refusal.{Refusal}
 use Rattle.moves.specs.CarryOut.{carry_out, differing}
 use Rattle.moves.specs.Decide.{is_move}
 use Rattle.moves.specs.Log.{LegalCells, set_of, z_of}
 use Rattle.phase.specs.Signature.{SameSignature}
-use Rattle.circuit.specs.TableFaults.{call_fault, marks_fault}
-use Rattle.carry.specs.declared.Moved.{Moved}
-use Rattle.carry.specs.declared.Moved.TheVariants.{Done, Refused}
-
--- each case in document 01's number and place
-abbrev pub told : Moved → Reply
-told (Done differ) = reply.Done
-told (Refused number place) = reply.Refused number place
 
 -- how many marks it says differ, 0 where it refused
-abbrev pub differ_of : Moved → ℕ
-differ_of (Done differ) = differ
-differ_of (Refused number place) = 0
+abbrev pub differ_of : Result ℕ Refusal → ℕ
+differ_of (Ok differ) = differ
+differ_of (Err refusal) = 0
 
 -- 1, 8 and 6: the marks are input and output, so a wrong length gives 8, a wrong mark 6
 abbrev pub carry_fault : ℕ → List ℕ → ℕ
@@ -34,7 +29,7 @@ abbrev pub carry_reply : ℕ → List ℕ → List ℕ → Reply
 carry_reply n marks cells = refuse (carry_fault n marks) 0 (cond (is_move max_members n marks cells) reply.Done (reply.Refused bad_move 0))
 
 -- `carry_out`, called with these marks and cells, replies r and leaves marks'
-pub record CarriesOut (n : ℕ) (marks cells marks' : List ℕ) (r : Moved) : Type 0 where
+pub record CarriesOut (n : ℕ) (marks cells marks' : List ℕ) (r : Result ℕ Refusal) : Type 0 where
   pub reply : told r ≡ carry_reply n marks cells
   -- without 1, 8 and 6: done exactly if the cells are a legal move for these marks
   pub judged : carry_fault n marks ≡ 0

@@ -1,31 +1,50 @@
 -- Each way out of `carry_out` by its law.
-use Rattle.carry.proofs.Ways.{call_refused, fault_said, marked_call, may_carry, move_done, move_refused, sound_on_all}
+use mathlib.Core.Path.{◌≡◌}
+use borrow.Author.Rules.{rules}
+use Rattle.circuit.proofs.Results.{numbered}
+use Rattle.legality.specs.Tested.{SaysLegal}
+use Rattle.carry.proofs.Ways.{call_refused, checked, may_carry, move_done, move_refused, sound_on_all, then_lent, then_marks, wires_first}
 use Rattle.carry.proofs.carry_out.Goals as goal
 
-pub returns-then-fault-ne0 : goal.returns-then-fault-ne0
-returns-then-fault-ne0 c =
-    call_refused (fault_said c.args.n c.args.marks.now c.lent_fault.ensures c.marks_call_fault-fault.ensures) c.if-fault-ne0.true
+pub returns-in_err-check_wires : goal.returns-in_err-check_wires
+returns-in_err-check_wires c =
+    call_refused _ (wires_first c.args.n c.args.marks.now (numbered _) c.in_err-check_wires.ensures) c.from_residual.ensures.1
+
+pub returns-in_err-marks : goal.returns-in_err-marks
+returns-in_err-marks c =
+    call_refused _ (then_lent c.args.n c.args.marks.now c.in_ok-check_wires.ensures (search rules) (search rules))
+    c.from_residual-in_err-marks.ensures.1
+
+pub returns-in_err-check_table : goal.returns-in_err-check_table
+returns-in_err-check_table c =
+    let marks = c.in_ok-marks.marks.now in
+    let same : marks ≡ c.args.marks.now = search rules in
+    let fault = then_marks c.args.n marks c.in_ok-check_wires.ensures (search rules) c.in_err-check_table.ensures.fault in
+    rw (← same) (call_refused _ fault c.from_residual-in_err-check_table.ensures.1)
 
 pub legal_move-requires : goal.legal_move-requires
 legal_move-requires c =
-    let marked = marked_call c.args.n c.args.marks.now c.lent_fault.ensures c.marks_call_fault-fault.ensures c.if-fault-ne0.false in
-    rw c.in-Some.ensures.cases.same (sound_on_all marked).none
+    let marks = c.in_ok-marks.marks.now in
+    (sound_on_all (checked c.args.n marks c.in_ok-check_wires.ensures (search rules) c.in_ok-check_table.ensures.fault)).none
 
-pub returns-in_default-legal_move : goal.returns-in_default-legal_move
-returns-in_default-legal_move c =
-    let marked = marked_call c.args.n c.args.marks.now c.lent_fault.ensures c.marks_call_fault-fault.ensures c.if-fault-ne0.false in
-    let same = c.in-Some.ensures.cases.same in
-    rw same (move_refused marked (rw same at c.in_default-legal_move.ensures))
+pub returns-in_err-said : goal.returns-in_err-said
+returns-in_err-said c =
+    let marks = c.in_ok-marks.marks.now in
+    let same : marks ≡ c.args.marks.now = search rules in
+    let marked = checked c.args.n marks c.in_ok-check_wires.ensures (search rules) c.in_ok-check_table.ensures.fault in
+    rw (← same) (move_refused marked _ (search rules) (search rules) c.from_residual-in_err-said.ensures.1)
 
-pub carry-differ-requires : goal.carry-differ-requires
-carry-differ-requires c =
-    let marked = marked_call c.args.n c.args.marks.now c.lent_fault.ensures c.marks_call_fault-fault.ensures c.if-fault-ne0.false in
-    let says = c.in-Some-legal_move.ensures in
-    may_carry says.legal (rw c.in-Some.ensures.cases.same (sound_on_all marked)) says.z_is says.set_is
+pub carry-requires : goal.carry-requires
+carry-requires c =
+    let marks = c.in_ok-marks.marks.now in
+    let marked = checked c.args.n marks c.in_ok-check_wires.ensures (search rules) c.in_ok-check_table.ensures.fault in
+    let says : SaysLegal marks c.args.cells.now c.in_ok-said.said.z c.in_ok-said.said.ys.now = search rules in
+    may_carry says.legal (sound_on_all marked) says.z_is says.set_is
 
 pub returns : goal.returns
 returns c =
-    let marked = marked_call c.args.n c.args.marks.now c.lent_fault.ensures c.marks_call_fault-fault.ensures c.if-fault-ne0.false in
-    let same = c.in-Some.ensures.cases.same in
-    let says = rw same at c.in-Some-legal_move.ensures in
-    move_done marked says.legal says.z_is says.set_is (rw same at c.carry-differ.ensures)
+    let marks = c.in_ok-marks.marks.now in
+    let same : marks ≡ c.args.marks.now = search rules in
+    let marked = checked c.args.n marks c.in_ok-check_wires.ensures (search rules) c.in_ok-check_table.ensures.fault in
+    let says : SaysLegal marks c.args.cells.now c.in_ok-said.said.z c.in_ok-said.said.ys.now = search rules in
+    rw (← same) (move_done marked says.legal says.z_is says.set_is c.carry.ensures)
