@@ -29,10 +29,15 @@ pub record Fills (s left : ℕ) (e e' : Slots) : Type 0 where
   pub wider : Within e.filled e'.filled
   pub kept : (g : ℕ) → Within g e.filled → held g e'.vec ≡ held g e.vec
 
--- `grow`: where v opened a slot, the mask names it too; else nothing changed. The mask names all that it did, and every part of that holds
--- what it held
+-- v comes down to 0
+abbrev pub Depends : Slots → ℕ → Type 0
+Depends e v = (used : ℕ) × Reached (holding e) v 0 used
+
+-- `grow`: where v opened a slot, the mask names it too; else v came down to 0, and nothing changed. The mask names all that it did, and
+-- every part of that holds what it held
 pub record Grows (v : ℕ) (e e' : Slots) (opened : Bool) : Type 0 where
   pub opens : opened ≡ true → OpensSlot v (holding e) (holding e')
+  pub down : opened ≡ false → Depends e v
   pub same : opened ≡ false → e' ≡ e
   pub wider : Within e.filled e'.filled
   pub kept : (g : ℕ) → Within g e.filled → held g e'.vec ≡ held g e.vec

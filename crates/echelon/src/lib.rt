@@ -16,6 +16,7 @@ use circuit::limits::{PRODUCT_BITS, Parity};
 use mask::SlotsOf;
 
 // The slots, and what stands beside them: the mask of the slots that were taken off a slot's column, and the member whose column it was.
+// These are arrays of their own, and not fields of one slot, since the numbers alone are what the quick elimination has (`Slots::grow`).
 #[derive(Drop)]
 pub struct Echelon {
     pub slots: Slots,

@@ -33,7 +33,7 @@ use Rattle.moves.specs.CarryOut.{flip}
 use Rattle.moves.specs.Log.{as_cells}
 use Rattle.moves.specs.Pair.{PairIn, mended, named}
 use Rattle.moves.specs.Sets.{listed}
-use Rattle.kernel.specs.Naming.{Few, FewBelow, MoveOf, NamesSet, NoPair, NoneFrom, SetNamed, listed_cells, set_with, total_with}
+use Rattle.kernel.specs.Naming.{Few, FewBelow, NamesSet, NoPair, NoneFrom, SetNamed, listed_cells, set_with, total_with}
 
 -- the member of a slot is a parity
 pub member_fits : {member : List ℕ} {s y : ℕ} → SlotMembers member → s < product_bits → y ≡ get_or member s 0 → y < parities
@@ -277,12 +277,7 @@ pub pair_none : {marks set member : List ℕ} {z a m : ℕ} → SetNamed a m mem
 pair_none {marks} {set} {member} {z} {a} {m} w a_none none y q =
     no_pair marks z a m member (rw w.is at a_none) (rw w.is at none) y (rw w.is at q)
 
--- ---- the set named, searched and mended
-
--- it has no one of a pair
-pub move_none : {marks member set : List ℕ} {z a m : ℕ} → SetNamed a m member set → ((y : ℕ) → PairIn marks z set y → ⊥)
-    → NoPair marks z a m member
-move_none w none y q = none y (rw w.is q)
+-- ---- the set named and mended
 
 module _ {marks member set : List ℕ} {z a m y : ℕ} (w : SetNamed a m member set) (p : (y < parities) × PairIn marks z set y) where
   -- the partner of y is a parity, and so is an or with it
@@ -298,16 +293,6 @@ module _ {marks member set : List ℕ} {z a m y : ℕ} (w : SetNamed a m member 
         inside = omega (arith, end_fits z_fits n.fits);
         none = mended_below w.small z y z_fits p.0 p.1.on total top n.none;
       })
-
-  -- and its cells are those of the move
-  pub move_of : {total : ℕ} {set' cells : List ℕ} → total ≡ total_with a m member → set' ≡ mended total z y set
-      → cells ≡ listed_cells z set' → MoveOf marks z a m member cells
-  move_of x e f =
-      record {
-        y = y;
-        pair = subst (λ (u : List ℕ). PairIn marks z u y) w.is p.1;
-        is = f ∙ ap (listed_cells z) (e ∙ ap₂ (λ (i : ℕ) (u : List ℕ). mended i z y u) x w.is);
-      }
 
 -- ---- the loop over the marks
 
