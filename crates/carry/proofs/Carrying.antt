@@ -81,7 +81,6 @@ module _ {m : List ℕ} {z : ℕ} {Y : List ℕ} (may : Flippable m z Y) where
     pub may_flip_z : ZFlippable w z differ
     may_flip_z =
         record {
-          long = paired.long ∙ long;
           fits = may.fits;
           enough = omega (arith, z_turn);
           few = rw (pairs.counted, ← long) (differing-le m w);
@@ -104,7 +103,7 @@ module _ {m : List ℕ} {z : ℕ} {Y : List ℕ} (may : Flippable m z Y) where
           ∙ sym (counted_if odd all.counted ∙ ap (differing m) (sym all.are))
 
       pub may_clear : Clearable w' r
-      may_clear = record { long = long' ∙ long; enough = omega (arith, zero_turn) }
+      may_clear = record { enough = omega (arith, zero_turn) }
 
       pub carried : {w'' : List ℕ} {s : ℕ} → odd ≡ length Y % 2 → Clears r w' w'' s → Flips (carry_out m z Y) m w'' s
       unfolding carry_out

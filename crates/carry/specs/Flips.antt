@@ -22,7 +22,6 @@ pub record Flips (these marks marks' : List ℕ) (differ : ℕ) : Type 0 where
 
 -- the mark of z may be flipped: it differs where mark 0 does, so that enough marks differ for it to be taken off
 pub record ZFlippable (marks : List ℕ) (z differ : ℕ) : Type 0 where
-  pub long : length marks ≡ table_bytes
   pub fits : z < parities
   pub enough : 2 * weight marks 0 ≤ differ + 1
   pub few : differ ≤ table_bytes
@@ -39,7 +38,6 @@ pub record FlipsIfOdd (odd z differ : ℕ) (marks marks' : List ℕ) (r : ℕ) :
 
 -- mark 0 may be cleared: where it is 1, it is one of those that differ
 pub record Clearable (marks : List ℕ) (differ : ℕ) : Type 0 where
-  pub long : length marks ≡ table_bytes
   pub enough : weight marks 0 ≤ differ
 
 -- mark 0 is cleared, and r marks differ then
