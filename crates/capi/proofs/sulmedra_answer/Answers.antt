@@ -3,7 +3,7 @@ use Rattle.capi.proofs.sulmedra_answer.Goals as goal
 
 pub returns : goal.returns
 returns c =
-    let are = c.answered_in_c.ensures in
+    let are = c.into.ensures in
     record {
       called = record { reply = c.answer.result; promise = c.answer.ensures; number_is = are.0; place_is = are.1 };
       bytes_is = are.2;

@@ -3,7 +3,7 @@ use Rattle.capi.proofs.sulmedra_compare.Goals as goal
 
 pub returns : goal.returns
 returns c =
-    let are = c.compared_in_c.ensures in
+    let are = c.into.ensures in
     record {
       called = record { reply = c.compare.result; promise = c.compare.ensures; number_is = are.0; place_is = are.1 };
       same_is = are.2;

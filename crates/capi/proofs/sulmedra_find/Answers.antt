@@ -3,7 +3,7 @@ use Rattle.capi.proofs.sulmedra_find.Goals as goal
 
 pub returns : goal.returns
 returns c =
-    let are = c.found_in_c.ensures in
+    let are = c.into.ensures in
     record {
       called = record { reply = c.find.result; promise = c.find.ensures; number_is = are.0; place_is = are.1 };
       found_is = are.2;

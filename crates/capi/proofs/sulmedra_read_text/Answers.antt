@@ -3,7 +3,7 @@ use Rattle.capi.proofs.sulmedra_read_text.Goals as goal
 
 pub returns : goal.returns
 returns c =
-    let are = c.text_in_c.ensures in
+    let are = c.into.ensures in
     record {
       called = record { reply = c.read_text.result; promise = c.read_text.ensures; number_is = are.0; place_is = are.1 };
       wires_is = are.2;

@@ -3,7 +3,7 @@ use Rattle.capi.proofs.sulmedra_trim.Goals as goal
 
 pub returns : goal.returns
 returns c =
-    let are = c.trimmed_in_c.ensures in
+    let are = c.into.ensures in
     record {
       called = record { reply = c.trim.result; promise = c.trim.ensures; number_is = are.0; place_is = are.1 };
       tin_is = are.2;

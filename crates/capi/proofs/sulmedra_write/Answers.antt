@@ -3,7 +3,7 @@ use Rattle.capi.proofs.sulmedra_write.Goals as goal
 
 pub returns : goal.returns
 returns c =
-    let are = c.written_in_c.ensures in
+    let are = c.into.ensures in
     record {
       called = record { reply = c.write.result; promise = c.write.ensures; number_is = are.0; place_is = are.1 };
       gates_is = are.2;
