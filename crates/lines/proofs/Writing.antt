@@ -59,7 +59,8 @@ module _ {gates : List (List ℕ)} {was left : List ℕ} {i : ℕ} (p : PutTo ga
           counted = omega (arith, p.counted, ap length step);
           put =
               ap (λ (l : List ℕ). sets l (gate_line_bytes * (i + 1)) (lines_from gates (i + 1))) e
-              ∙ sets_append left (line_at gates i) (lines_from gates (i + 1)) (gate_line_bytes * i) (gate_line_bytes * (i + 1)) (omega arith)
+              ∙ sets_append left (line_at gates i) (lines_from gates (i + 1)) (gate_line_bytes * i) (gate_line_bytes * (i + 1))
+              (omega arith)
               ∙ ap (sets left (gate_line_bytes * i)) (sym step)
               ∙ p.put;
         }

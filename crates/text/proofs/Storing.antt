@@ -79,7 +79,8 @@ gate_of_chunk t line p e =
     let third : p + 2 + 1 ≡ p + 3 = omega arith in
     let fifth : p + 4 + 1 ≡ p + 5 = omega arith in
     rw (e, third, fifth)
-    (simp (at 0 (omega arith), at 1 (omega arith), at 2 (omega arith), at 3 (omega arith), at 4 (omega arith), at 5 (omega arith), add-zero))
+    (simp
+    (at 0 (omega arith), at 1 (omega arith), at 2 (omega arith), at 3 (omega arith), at 4 (omega arith), at 5 (omega arith), add-zero))
 
 -- the gate of chunk i
 pub gate_of_line : (t : List ℕ) (i : ℕ) {chunks : List (List ℕ)} → chunks ≡ first_chunks gate_line_bytes (length t / gate_line_bytes) t

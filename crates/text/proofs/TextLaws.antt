@@ -117,7 +117,8 @@ pub first_bytes_decide : (t : List ℕ) → read_text t ≡ read_text (take text
 first_bytes_decide t = sym (text_decided t)
 
 -- so a call with these bytes alone replies and leaves what one with the whole text does
-pub call_decided : (t gates gates' : List ℕ) (r : Result Circuit Refusal) → ReadText (take text_bytes t) gates gates' r → ReadText t gates gates' r
+pub call_decided : (t gates gates' : List ℕ) (r : Result Circuit Refusal) → ReadText (take text_bytes t) gates gates' r
+    → ReadText t gates gates' r
 call_decided t gates gates' r c =
     let same : read_into (length gates) (take text_bytes t) ≡ read_into (length gates) t =
     ap (unless_refused (call_reply (short_fault (length gates) max_list_bytes))) (text_decided t) in
@@ -131,11 +132,13 @@ call_decided t gates gates' r c =
 -- ---- what the promise of `read_text` means
 
 -- the reply is the wire count and the number of gates of what is read, or its fault
-pub reply_as_read : (t gates gates' : List ℕ) (r : Result Circuit Refusal) → ReadText t gates gates' r → r ≡ reply_of (read_into (length gates) t)
+pub reply_as_read : (t gates gates' : List ℕ) (r : Result Circuit Refusal) → ReadText t gates gates' r
+    → r ≡ reply_of (read_into (length gates) t)
 reply_as_read t gates gates' r p = reply_is p
 
 -- number 0 says done
-pub text_number : (t gates gates' : List ℕ) (r : Result Circuit Refusal) → ReadText t gates gates' r → number_of (told r) ≡ 0 → told r ≡ Done
+pub text_number : (t gates gates' : List ℕ) (r : Result Circuit Refusal) → ReadText t gates gates' r → number_of (told r) ≡ 0
+    → told r ≡ Done
 text_number t gates gates' r p e = p.reply ∙ go (read_into (length gates) t) refl (sym (ap number_of p.reply) ∙ e)
   where
     go : (x : Text) → read_into (length gates) t ≡ x → number_of (fault_said x) ≡ 0 → fault_said x ≡ Done

@@ -8,14 +8,14 @@ use lib.ListN.{drop, length, take}
 use Rattle.std.specs.Prelude.{Err, Ok, Result, cond}
 use Rattle.std.proofs.lemmas.List.{take_rest}
 use Rattle.circuit.proofs.Judging.{refuse_done, refused_not_done, short_pass}
-use Rattle.circuit.specs.Faults.{bad_move, call_reply, gate_kind, gate_wire, lent_output, list_length, malformed, refuse, row_rule, same_wire}
-use Rattle.circuit.specs.Faults.{short_fault, table_rule, wire_count}
+use Rattle.circuit.specs.Faults.{bad_move, call_reply, gate_kind, gate_wire, lent_output, list_length, malformed, refuse, row_rule}
+use Rattle.circuit.specs.Faults.{same_wire, short_fault, table_rule, wire_count}
 use Rattle.circuit.specs.Limits.{gate_bytes, max_list_bytes}
 use Rattle.circuit.specs.Replies.{Done, Refused, Reply}
 use Rattle.circuit.specs.Told.{number, told}
 use Rattle.circuit.specs.declared.faults.Fault.{Fault}
-use Rattle.circuit.specs.declared.faults.Fault.TheVariants.{BadMove, GateKind, GateWire, LentOutput, ListLength, Malformed, RowRule, SameWire}
-use Rattle.circuit.specs.declared.faults.Fault.TheVariants.{SecondList, TableRule, WireCount}
+use Rattle.circuit.specs.declared.faults.Fault.TheVariants.{BadMove, GateKind, GateWire, LentOutput, ListLength, Malformed, RowRule}
+use Rattle.circuit.specs.declared.faults.Fault.TheVariants.{SameWire, SecondList, TableRule, WireCount}
 use Rattle.circuit.specs.declared.faults.Refusal.{Refusal}
 use Rattle.text.proofs.Storing.{bytes_from}
 use Rattle.text.proofs.TextFaults.{gates_done, one_formed_done, one_long, read_circuit}
