@@ -15,7 +15,7 @@ use std::fs::Files;
 use std::io::{Read, Write};
 use std::{fs, io};
 use text::limits::{REFUSED_LINE_BYTES, TEXT_BYTES};
-use verdict::{Named, put_verdict};
+use verdict::{Texts, put_verdict};
 
 // The program's own name, and two files.
 const ARGUMENTS: usize = 3;
@@ -168,12 +168,12 @@ fn write_line<W: Write, E: Write>(line: &[u8], out: &mut W, errors: &mut E) -> i
 }
 
 // The file that is refused, or both.
-fn name_files<R: Env, E: Write>(rt: &R, named: Named, errors: &mut E) {
+fn name_files<R: Env, E: Write>(rt: &R, named: Texts, errors: &mut E) {
     match named {
-        Named::Neither => {}
-        Named::First => name_refused(rt, 1, errors),
-        Named::Second => name_refused(rt, 2, errors),
-        Named::Both => name_both(rt, errors),
+        Texts::Neither => {}
+        Texts::First => name_refused(rt, 1, errors),
+        Texts::Second => name_refused(rt, 2, errors),
+        Texts::Both => name_both(rt, errors),
     }
 }
 
