@@ -7,6 +7,7 @@ ghost use Rattle.columns.specs.OneZ.{HasPair, NoneWith, ToAsk};
 ghost use Rattle.gf2.specs.Bit.{bit};
 ghost use Rattle.gf2.specs.Tests.{Decides};
 
+use crate::table::Products;
 use crate::{OneZ, Search};
 use circuit::limits::Parity;
 use circuit::parity::unit;
@@ -29,19 +30,35 @@ impl Half {
             apart: None,
         }
     }
-}
 
-impl Search<'_> {
     // The half for z and its highest wire t: eliminated for the first z with this wire, and for the others as it was.
-    pub fn half_at(&self, one: OneZ, most: usize, half: &mut Half)
-        requires { one.z ≢ 2 ^ one.t → HalfIn self.now.members.now one.t half.old }
-        ensures { HalfIn self.now.members.now one.t half.new }
+    pub fn for_z(&mut self, products: &Products, ys: &[Parity], one: OneZ, most: usize)
+        requires { one.z ≢ 2 ^ one.t → HalfIn ys.now one.t self.old }
+        ensures { HalfIn ys.now one.t self.new }
     {
         if one.z == unit(one.t) {
-            self.half_of(one.t, most, half);
+            self.eliminate(products, ys, one.t, most);
         }
     }
 
+    // Eliminates the members without wire t. Where there are more than `most` members it looks at none: at most `most` columns can be
+    // apart, so those of so many members seldom are.
+    fn eliminate(&mut self, products: &Products, ys: &[Parity], t: usize, most: usize)
+        requires { t < max_wires }
+        ensures { HalfIn ys.now t self.new }
+    {
+        self.apart = None;
+        if ys.len() > most {
+            return;
+        }
+        self.slots.clear();
+        if products.all_open(ys, &mut self.slots, |y| ((y >> t) % 2 == 0).then_some(y)) {
+            self.apart = Some(self.slots.filled);
+        }
+    }
+}
+
+impl Search<'_> {
     // How many turns there are: two for each member; or none, where z is no xor of two, or all columns are apart.
     pub fn to_ask(&self, one: OneZ, half: &mut Half) -> usize
         requires names { bit one.z one.t ≡ 1 }
@@ -53,22 +70,6 @@ impl Search<'_> {
             return 0;
         }
         2 * self.members.len()
-    }
-
-    // Eliminates the members without wire t. Where there are more than `most` members it looks at none: at most `most` columns can be
-    // apart, so those of so many members seldom are.
-    fn half_of(&self, t: usize, most: usize, half: &mut Half)
-        requires { t < max_wires }
-        ensures { HalfIn self.now.members.now t half.new }
-    {
-        half.apart = None;
-        if self.members.len() > most {
-            return;
-        }
-        half.slots.clear();
-        if self.all_open(&mut half.slots, |y| ((y >> t) % 2 == 0).then_some(y)) {
-            half.apart = Some(half.slots.filled);
-        }
     }
 
     // Whether z is the xor of two members.
@@ -96,7 +97,9 @@ impl Search<'_> {
             return false;
         };
         half.slots.back_to(without);
-        self.all_open(&mut half.slots, |y| self.beside_single(one, y))
+        self.products.all_open(self.members, &mut half.slots, |y| {
+            self.beside_single(one, y)
+        })
     }
 
     // The partner of a member y with wire t, where it is no member: the entry of the partner is the column of y.
@@ -112,18 +115,25 @@ impl Search<'_> {
             None
         }
     }
+}
 
-    // Puts in the entry of each parity that `pick` gives for a member. True where each of them has opened a slot, so that none depends on
+impl Products {
+    // Puts in the entry of each parity that `pick` gives for one of these. True where each of them has opened a slot, so that none depends on
     // the others; it ends at the first that does.
-    fn all_open<F: Fn(Parity) -> Option<Parity>>(&self, slots: &mut Slots, pick: F) -> bool
+    fn all_open<F: Fn(Parity) -> Option<Parity>>(
+        &self,
+        ys: &[Parity],
+        slots: &mut Slots,
+        pick: F,
+    ) -> bool
         requires callable { (y : ℕ) → y < parities → F.pre pick y }
         requires picks { (y p : ℕ) → y < parities → F.post pick y (Some p) → p < parities }
-        ensures all { result ≡ true → AllOpened (F.post pick) self.now.members.now slots.old slots.new }
+        ensures all { result ≡ true → AllOpened (F.post pick) ys.now slots.old slots.new }
         ensures keeps { Keeps slots.old slots.new }
     {
-        for &y in self.members {
+        for &y in ys {
             if let Some(p) = pick(y) {
-                if !slots.grow(self.products.entry(p)) {
+                if !slots.grow(self.entry(p)) {
                     return false;
                 }
             }

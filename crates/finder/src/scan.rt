@@ -21,7 +21,7 @@ pub fn scan(n: usize, search: &Search) -> Option<Move>
     let mut columns = Echelon::new();
     for k in 1..1usize << n {
         let one = OneZ::new(k as Parity);
-        search.half_at(one, most, &mut half);
+        half.for_z(search.products, search.members, one, most);
         columns.clear();
         for i in 0..search.to_ask(one, &mut half) {
             if let Some(a) = search.turn(one, i) {

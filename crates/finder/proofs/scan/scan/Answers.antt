@@ -15,8 +15,8 @@ use Rattle.finder.proofs.scan.scan.Goals.{in-Some+in_default-offer, in_default}
 pub loop-k-init : goal.loop-k-init
 loop-k-init c = record { none = none_below_one max_members max_wires c.args.search.now.marks.now; half_is = half_for_one }
 
-pub half_at-requires : goal.half_at-requires
-half_at-requires c = half_for_this (rw c.new-one.ensures.0 c.loop-k.invariant.half_is) c.new-one.ensures.1
+pub for_z-requires : goal.for_z-requires
+for_z-requires c = half_for_this (rw c.new-one.ensures.0 c.loop-k.invariant.half_is) c.new-one.ensures.1
 
 pub to_ask-i-end-requires-clause-names : goal.to_ask-i-end-requires-clause-names
 to_ask-i-end-requires-clause-names c = let l = c.new-one.ensures.1 in bit-top _ _ l.lo l.hi
@@ -50,7 +50,7 @@ loop-k-preserved c =
     (rw all at c.loop-i.invariant) in
     record {
       none = none_below_more max_members max_wires _ c.loop-k.invariant.none (rw c.new-one.ensures.0 at none);
-      half_is = rw c.new-one.ensures.0 at (half_for_next l (half_kept c.half_at.ensures c.to_ask-i-end.ensures.half_stays));
+      half_is = rw c.new-one.ensures.0 at (half_for_next l (half_kept c.for_z.ensures c.to_ask-i-end.ensures.half_stays));
     }
 
 pub returns : goal.returns

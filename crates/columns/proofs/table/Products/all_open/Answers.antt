@@ -2,8 +2,8 @@
 use native.Mathlib.Numerals.{add-one}
 use Rattle.columns.proofs.Apart.{keeps_all, keeps_more}
 use Rattle.columns.specs.Halves.{opened, passed, start}
-use Rattle.columns.proofs.Search.all_open.Goals as goal
-use Rattle.columns.proofs.Search.all_open.Goals.{in-Some+else-not-grow, in_default}
+use Rattle.columns.proofs.table.Products.all_open.Goals as goal
+use Rattle.columns.proofs.table.Products.all_open.Goals.{in-Some+else-not-grow, in_default}
 
 pub loop-y-init : goal.loop-y-init
 loop-y-init g c = record { opened = start; keeps = keeps_all }
