@@ -1,49 +1,12 @@
--- Gates and their bytes: what a loop over bytes, three at a time, needs; one way and back, joined, and how many.
+-- Gates and their bytes: a list cut into threes; one way and back, joined, and how many.
 use mathlib.Core.List.{List, [], ◌++◌, ◌∷◌, map}
-use mathlib.Core.Path.{ap, refl, ◌∙◌, ◌≡◌}
-use Prim.Native.Nat.{◌%◌, ◌*◌, ◌+◌, ◌/◌, ◌<◌, suc, zero, ℕ, ◌≤◌}
+use mathlib.Core.Path.{ap, refl, ◌≡◌}
+use Prim.Native.Nat.{◌%◌, ◌*◌, ◌/◌, suc, zero, ℕ, ◌≤◌}
 use native.Mathlib.Omega.{arith}
-use lib.ListN.{drop, get_or, length, length-drop}
-use lib.Seq.{drop-cons}
+use lib.ListN.{length}
 use Rattle.std.specs.Simd.{first_chunks}
-use Rattle.circuit.specs.Gate.{Gate, byte_gate, bytes_of, gate, gate_of, gates_of}
+use Rattle.circuit.specs.Gate.{Gate, bytes_of, gate, gate_of, gates_of}
 use Rattle.circuit.specs.Limits.{gate_bytes}
-
--- the gates from gate i on
-abbrev pub gates_from : List ℕ → ℕ → List Gate
-gates_from bytes i = gates_of (drop (gate_bytes * i) bytes)
-
-three : (j : ℕ) (bytes : List ℕ) → j + 2 < length bytes
-    → drop j bytes ≡ get_or bytes j 0 ∷ get_or bytes (j + 1) 0 ∷ get_or bytes (j + 2) 0 ∷ drop (j + 3) bytes
-three j bytes h =
-    let a : j + 1 ≡ suc j = omega arith in
-    let b : j + 2 ≡ suc (suc j) = omega arith in
-    let c : j + 3 ≡ suc (suc (suc j)) = omega arith in
-    rw (a, b, c)
-    (drop-cons bytes j 0 (omega arith)
-    ∙ ap (λ (l : List ℕ). get_or bytes j 0 ∷ l)
-    (drop-cons bytes (suc j) 0 (omega arith)
-    ∙ ap (λ (l : List ℕ). get_or bytes (suc j) 0 ∷ l) (drop-cons bytes (suc (suc j)) 0 (omega arith))))
-
--- one turn of a loop
-pub gates_step : (bytes : List ℕ) (i : ℕ) → gate_bytes * i + 2 < length bytes
-    → gates_from bytes i ≡ byte_gate bytes i ∷ gates_from bytes (i + 1)
-unfolding gates_of
-gates_step bytes i h =
-    let e : gate_bytes * i + gate_bytes ≡ gate_bytes * (i + 1) = omega arith in
-    ap gates_of (three (gate_bytes * i) bytes h)
-    ∙ ap (λ (j : ℕ). byte_gate bytes i ∷ gates_of (drop j bytes)) e
-
--- past the last whole gate
-short : (bytes : List ℕ) → length bytes < gate_bytes → gates_of bytes ≡ []
-unfolding gates_of
-short [] h = refl
-short (k ∷ []) h = refl
-short (k ∷ a ∷ []) h = refl
-short (k ∷ a ∷ b ∷ bytes) h = absurd (omega arith)
-
-pub gates_tail : (bytes : List ℕ) (i : ℕ) → i ≡ length bytes / gate_bytes → gates_from bytes i ≡ []
-gates_tail bytes i e = short (drop (gate_bytes * i) bytes) (rw (length-drop (gate_bytes * i) bytes) (omega arith))
 
 -- a slice cut into threes
 pub gates_chunked : (bytes : List ℕ) (k : ℕ) → k ≡ length bytes / gate_bytes → map gate_of (first_chunks gate_bytes k bytes) ≡ gates_of bytes

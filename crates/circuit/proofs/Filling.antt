@@ -1,4 +1,4 @@
--- Cells that a loop fills from the front, one `put_cell` a turn.
+-- Numbers that a loop fills from the front, one store a turn.
 use mathlib.Core.List.{List}
 use mathlib.Core.Path.{◌∙◌, ◌≡◌, ap}
 use Prim.Native.Nat.{◌+◌, ◌<◌, ℕ}

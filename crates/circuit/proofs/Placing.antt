@@ -1,12 +1,12 @@
 -- Bytes stored one after the other in a lent buffer.
 use mathlib.Core.List.{List, [], ◌∷◌, ◌++◌, append-nil}
 use mathlib.Core.Path.{◌∙◌, ◌≡◌, ap, ap₂, refl, subst, sym}
-use Prim.Native.Nat.{◌+◌, ◌<◌, ◌≤◌, suc, ℕ}
+use Prim.Native.Nat.{◌+◌, ◌≤◌, suc, ℕ}
 use native.Mathlib.Nat.{le_refl, zero-add}
 use native.Mathlib.Numerals.{add-one, add-two}
 use native.Mathlib.Omega.{arith}
-use lib.ListN.{drop, drop_of_length-le, get_or, length, set, take, take-append-drop}
-use lib.Seq.{drop-drop, drop-paste, length-paste, paste, paste-suc, sets, sets-eq, take-length}
+use lib.ListN.{drop, drop_of_length-le, length, set, take, take-append-drop}
+use lib.Seq.{drop-drop, drop-paste, length-paste, paste, sets, sets-eq, take-length}
 use Rattle.circuit.specs.Lent.{KeptFrom, placed}
 
 -- stores in a row, then more from where they end
@@ -30,11 +30,6 @@ placed_paste was at these = ap (λ (x : List ℕ). take at was ++ x ++ drop (at 
 -- as many as there are: nothing else is left
 pub placed_all : (was these : List ℕ) → length these ≡ length was → placed was 0 these ≡ these
 placed_all was these e = ap (λ (x : List ℕ). these ++ x) (drop_of_length-le was {i = 0 + length these} (omega arith)) ∙ append-nil these
-
--- one more of a copy
-pub paste_more : (was these : List ℕ) (at j : ℕ) {left : List ℕ} {x : ℕ} → at + length these ≤ length was → j < length these
-    → x ≡ get_or these j 0 → left ≡ set (paste was at these j) (at + j) x → left ≡ paste was at these (j + 1)
-paste_more was these at j {left} {x} h l e f = f ∙ rw (e, add-one j) (paste-suc was at these j 0 (omega arith) l)
 
 pub paste_placed : (was these : List ℕ) (at j : ℕ) → j ≡ length these → paste was at these j ≡ placed was at these
 paste_placed was these at j e = ap (paste was at these) e ∙ sym (placed_paste was at these)

@@ -1,7 +1,6 @@
 -- Document 01, "Gates and what they do": a gate is three bytes, kind, a and b. A list of gates is read from bytes by `gates_of`.
-use Rattle.std.specs.Prelude.{cond, List, [], ◌∷◌, ◌*◌, ◌+◌, ℕ, eqb, get_or}
+use Rattle.std.specs.Prelude.{cond, List, [], ◌∷◌, ◌+◌, ℕ, eqb, get_or}
 use Rattle.gf2.specs.Sum.{delta}
-use Rattle.circuit.specs.Limits.{gate_bytes}
 
 -- kind, a, b
 pub data Gate : Type 0 where
@@ -67,10 +66,6 @@ gates_of [] = []
 gates_of (kind ∷ []) = []
 gates_of (kind ∷ a ∷ []) = []
 gates_of (kind ∷ a ∷ b ∷ bytes) = gate kind a b ∷ gates_of bytes
-
--- gate i of a list of bytes
-abbrev pub byte_gate : List ℕ → ℕ → Gate
-byte_gate bytes i = gate (get_or bytes (gate_bytes * i) 0) (get_or bytes (gate_bytes * i + 1) 0) (get_or bytes (gate_bytes * i + 2) 0)
 
 -- three bytes are a gate
 abbrev pub gate_of : List ℕ → Gate

@@ -1,10 +1,11 @@
 // The limits of document 01, each once in the code, and the types of its numbers. The same names stand in specs/Limits.antt, and the proofs
 // hold the two together. Another width is another MAX_WIRES, with a Parity that holds its parities.
 
-// A parity: bit i for wire i. Rows are parities, and so are the masks of wires that CNOTs are written by.
+// A parity: bit i for wire i. Rows are parities, and so are the masks of wires that CNOTs are written by. It is a plain number, and clauses
+// say that it is below PARITIES: C lends rows, moves and logs as numbers, which a struct with that fact could not lie among.
 pub type Parity = u8;
 
-// A weight, 0 to 7.
+// A weight, 0 to 7. Weights and marks are lent as bytes and changed where they lie, so that clauses say which are sound, and no struct.
 pub type Weight = u8;
 
 // A mark of an odd set, 0 or 1.

@@ -7,14 +7,6 @@ ghost use Rattle.circuit.specs.Limits.{max_wires, parities};
 
 use crate::limits::Parity;
 
-// The place of a parity in a table.
-pub fn index_of(p: Parity) -> usize
-    requires { p < parities }
-    ensures { (result ≡ p) × (result < parities) }
-{
-    p as usize
-}
-
 // The parity of wire i alone.
 pub fn unit(i: usize) -> Parity
     requires { i < max_wires }

@@ -6,7 +6,6 @@ ghost use Rattle.moves.specs.Column.{column};
 
 use crate::OneZ;
 use circuit::limits::{PARITIES, Parity};
-use circuit::parity::index_of;
 use moves::partner::bar;
 
 const PRODUCTS: [u64; PARITIES] = [
@@ -285,7 +284,7 @@ impl Products {
         requires { p < parities }
         ensures { ProductEntry p result }
     {
-        self.entries[index_of(p)]
+        self.entries[usize::from(p)]
     }
 
     // The column of y for z and its wire t: the entry of the one of y and y ^ z that does not name t.

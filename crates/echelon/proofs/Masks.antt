@@ -47,14 +47,6 @@ module _ {filled : ℕ} {vec : List ℕ} (m : Masked filled vec) (g : ℕ) (insi
 pub masked_long : {filled : ℕ} {vec : List ℕ} → Masked filled vec → length vec ≡ product_bits
 masked_long {filled} {vec} m = sym (held_long filled vec) ∙ m.shape.long
 
--- what the mask names has not changed
-pub masked_kept : {filled : ℕ} {vec vec' : List ℕ} → Masked filled vec → held filled vec' ≡ held filled vec → Masked filled vec'
-masked_kept {filled} {vec} {vec'} m e =
-    record {
-      shape = rw e m.shape;
-      some = λ s b n. m.some s b (sym (held_on filled vec s b) ∙ ap (λ (l : List ℕ). get_or l s 0) (sym e) ∙ held_on filled vec' s b ∙ n);
-    }
-
 module _ {filled : ℕ} {vec : List ℕ} {left s : ℕ} (m : Masked filled vec) (b : LeadingBit left s) where
   -- the mask names the slot
   module _ (named : filled / 2 ^ s % 2 ≢ 0) where

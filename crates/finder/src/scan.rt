@@ -19,6 +19,7 @@ pub fn scan(n: usize, search: &Search) -> Option<Move>
     let most = n * (n - 1) / 2;
     let mut half = Half::new();
     let mut columns = Echelon::new();
+    // Both loops go over numbers, z and the turn, which are places of no list.
     for k in 1..1usize << n {
         let one = OneZ::new(k as Parity);
         half.for_z(search.products, search.members, one, most);

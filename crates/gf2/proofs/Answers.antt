@@ -26,10 +26,3 @@ decides_as there back d = (λ e. there (d.0 e), λ e q. d.1 e (back q))
 
 pub decides_not : {P : Type 0} {r : Bool} → Decides r P → Decides (not r) (P → ⊥)
 decides_not {r = r} d = (λ e. d.1 (not-true r e), λ e n. n (d.0 (not-false r e)))
-
--- what a branch on `!answer` tells
-pub denied : {P : Type 0} {r : Bool} → Decides r P → not r ≡ true → P → ⊥
-denied {r = r} d e = d.1 (not-true r e)
-
-pub granted : {P : Type 0} {r : Bool} → Decides r P → not r ≡ false → P
-granted {r = r} d e = d.0 (not-false r e)

@@ -59,9 +59,6 @@ drop-take (suc m) n (b ∷ t) = rw (suc-add m n) (drop-take m n t)
 abbrev pub Filled : List ℕ → List ℕ → ℕ → Type 0
 Filled out v p = (i : ℕ) → i < p → get_or out i 0 ≡ get_or v i 0
 
-pub filled_none : (out v : List ℕ) → Filled out v 0
-filled_none out v i h = absurd (omega arith)
-
 pub filled_next : (out v : List ℕ) (p x : ℕ) → p < length out → Filled out v p → x ≡ get_or v p 0 → Filled (set out p x) v (p + 1)
 filled_next out v p x h f e i g = go (ℕ_discrete i p)
   where

@@ -134,6 +134,7 @@ fn list(z: Parity, end: usize, set: &[Mark; TABLE_BYTES]) -> Move
 {
     let mut cells = [0; MOVE_CELLS];
     cells[0] = z;
+    // y is what is listed, and not its place alone.
     for y in 0..end {
         if set[y] == 1 {
             let k = usize::from(cells[1]);

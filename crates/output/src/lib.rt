@@ -36,6 +36,7 @@ pub fn fail<W: Write>(to: &mut W, what: &[u8], error: io::Error) -> io::Result<(
 {
     let mut room = [0u8; REASON_BYTES];
     let reason = reason_in(error, &mut room);
+    // Four writes: of what one `write!` puts into a writer, nothing is promised.
     write_all(to, what)?;
     write_all(to, b": ")?;
     write_all(to, reason)?;

@@ -9,7 +9,7 @@ ghost use Rattle.reader.specs.Entry.{Addable, ReadAll};
 
 use circuit::gates::{GateKind, gates};
 use circuit::limits::{MAX_WIRES, Parity, TABLE_BYTES, Weight};
-use circuit::parity::{index_of, unit};
+use circuit::parity::unit;
 
 // The weights, the rows and the number of T and T dagger gates of a list, as the code keeps them.
 #[derive(Drop)]
@@ -76,6 +76,6 @@ fn add_phase(weights: &mut [Weight; TABLE_BYTES], p: Parity, v: Weight)
     requires { Addable weights.old p v }
     ensures { weights.new ≡ add_at 8 weights.old p v }
 {
-    let q = index_of(p);
+    let q = usize::from(p);
     weights[q] = (weights[q] + v) % 8;
 }

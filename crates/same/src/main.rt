@@ -112,7 +112,7 @@ fn tell<R: Env, E: Write>(rt: &R, failure: Failure, errors: &mut E) -> io::Resul
     }
 }
 
-// Why an argument is not taken for the name of a file.
+// Why an argument is not taken for the name of a file. Both types are the library's, so that a `From` cannot stand here.
 fn reason_of(fault: FillError) -> io::Error {
     match fault {
         FillError::TooLong => io::Error::from_raw_os_error(NAME_TOO_LONG),

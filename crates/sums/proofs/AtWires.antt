@@ -18,13 +18,6 @@ use Rattle.phase.proofs.Sums.{C, L, Q}
 use Rattle.sums.proofs.Difference.{difference_at, length-difference}
 use Rattle.sums.specs.Difference.{DifferenceSums, Summable, difference}
 
--- sound weights, and sound marks, can be summed
-pub weights_summable : (size n : ℕ) (w : List ℕ) → 2 ^ n ≤ size → SoundWeights size n w → Summable n w
-weights_summable size n w room s = record { room = omega (arith, s.long); small = λ p h. s.small p }
-
-pub marks_summable : (size n : ℕ) (u : List ℕ) → 2 ^ n ≤ size → SoundMarks size n u → Summable n u
-marks_summable size n u room s = weights_summable size n u room (marks_weights size n u s)
-
 module _ (n : ℕ) (w u s : List ℕ) (ww : Wide n w) (wu : Wide n u) (sums : DifferenceSums n w u s) where
   abbrev d : ℕ → ℕ
   d p = weight (difference (2 ^ n) w u) p

@@ -70,9 +70,6 @@ block_without b i p l g = block_half b i p 0 (omega arith) (omega arith) (omega 
 block_having : (b i p : ℕ) → b * (2 * 2 ^ i) + 2 ^ i ≤ p → p < b * (2 * 2 ^ i) + 2 * 2 ^ i → bit p i ≡ 1
 block_having b i p l g = block_half b i p 1 (omega arith) (omega arith) (omega arith)
 
-pub wire_start : (i : ℕ) (s : List ℕ) → WireAdded i 0 s s
-wire_start i s = record { as_long = refl; without = λ p a b. absurd (omega arith); having = λ p l. refl; onward = λ p l. refl }
-
 -- blocks of k that are there are whole; and where there are whole blocks alone, they are all
 block_whole : (b k l : ℕ) → b < l / k → b * k + k ≤ l
 block_whole b k l h =
@@ -124,18 +121,6 @@ wire_end {i} {end} {s₀} {s} w l =
   where
     past : (p : ℕ) → length s₀ ≤ p → length s ≤ p
     past p g = omega (arith, w.as_long)
-
--- what is added stays below 8
-pub wire_small : {i end : ℕ} {s₀ s : List ℕ} → WireAdded i end s₀ s → Below 8 s₀ → Below 8 s
-wire_small {i} {end} {s₀} {s} w b p l = go (bit-values (bit p i) (bit-lt p i)) (dec_lt p end)
-  where
-    old : weight s₀ p < 8
-    old = b p (omega (arith, w.as_long))
-
-    go : (bit p i ≡ 0) ⊎ (bit p i ≡ 1) → Dec (p < end) → weight s p < 8
-    go (inl z) (yes g) = omega (arith, w.without p g z)
-    go (inl z) (no g) = omega (arith, w.onward p (omega arith), old)
-    go (inr z) d = omega (arith, w.having p z, old)
 
 -- ---- all wires
 

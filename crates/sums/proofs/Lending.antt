@@ -21,9 +21,3 @@ front n = take (count n) (replicate table_bytes 0)
 module _ (n : ℕ) (few : n ≤ max_wires) where
   pub counted : (count n ≡ 2 ^ n) × (2 ^ n ≤ parities)
   counted = (shifted 64 n (omega arith), pow_mono few)
-
-  pub front_long : length (front n) ≡ count n
-  front_long = length-take-le (count n) (replicate table_bytes 0) (omega (arith, counted, length-replicate {A = ℕ} table_bytes 0))
-
-  pub front_fits : SumsFit n (front n)
-  front_fits = record { few = few; long = front_long ∙ counted.0 }

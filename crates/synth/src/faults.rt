@@ -71,6 +71,7 @@ fn check_dependence(n: usize, rows: &[Parity; MAX_WIRES]) -> Result<(), Fault>
     ensures { fault_told result ≡ cancel_fault (2 ^ n - 1) rows.now }
 {
     let mut masks = *rows;
+    // Every mask changes with each row, so the loop goes over the wires and not over the masks.
     for r in 0..n {
         let b = pivot_of(n, r, masks[r]).ok_or(Fault::RowRule)?;
         row_step(&mut masks, r, b);

@@ -12,6 +12,7 @@ pub fn write_rows(to: &mut Writer<'_>, n: usize, rows: &[Parity; MAX_WIRES])
     ensures { Stored to.old to.new (write_rows n rows.now) }
 {
     let mut masks = *rows;
+    // Every mask changes with each row, so the loop goes over the wires and not over the masks.
     for r in 0..n {
         let b = pivot_of(n, r, masks[r]).unwrap();
         let step = row_step(&mut masks, r, b);

@@ -15,17 +15,8 @@ use Rattle.trimmed.specs.declared.Counts.{Counts}
 use Rattle.trimmer.specs.Entry.{DoneWith, TrimLeft, TrimList, Trimmable, no_counts, trim_lent, verdict}
 
 module _ {n : ℕ} {g out log : List ℕ} where
-  pub trim_refused : {refusal : Refusal} → told {A = Counts} (Err refusal) ≡ verdict n g (length out) (length log)
-      → TrimList n g out log out log (Err refusal)
-  trim_refused {refusal} judged =
-      record { reply = judged; left = refused_keeps (λ f. TrimLeft f no_counts n g out log out log) (λ f. (refl, refl)) refusal }
-
   pub may_trim : Done ≡ verdict n g (length out) (length log) → Trimmable n g out log
   may_trim judged =
       let a = list_done n g (trim_lent (length out) (length log)) (sym judged) in
       let b = or_pass (short_fault (length out) write_bytes) (short_fault (length log) log_cells) a.1 in
       record { accepted = a.0; out_room = short_pass (length out) write_bytes b.0; log_room = short_pass (length log) log_cells b.1 }
-
-  pub trim_done : {out' log' : List ℕ} {counts : Counts} → Done ≡ verdict n g (length out) (length log)
-      → DoneWith n g out log out' log' counts → TrimList n g out log out' log' (Ok counts)
-  trim_done judged d = record { reply = judged; left = d }
