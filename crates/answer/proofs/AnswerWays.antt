@@ -2,7 +2,7 @@
 use mathlib.Core.List.{List}
 use mathlib.Core.Logic.{◌≢◌}
 use mathlib.Core.Path.{◌∙◌, ◌≡◌, ap, refl, subst, sym}
-use Prim.Native.Nat.{◌*◌, ◌<◌, ◌≤◌, suc, zero, ℕ}
+use Prim.Native.Nat.{◌*◌, ◌<◌, ◌≤◌, ℕ}
 use native.Mathlib.Decide.{dec_le}
 use native.Mathlib.Omega.{arith}
 use lib.ListN.{length, length-take, take}
@@ -26,7 +26,7 @@ use Rattle.text.specs.declared.Circuit.{Circuit}
 use Rattle.trimmed.specs.declared.Counts.{Counts}
 use Rattle.trimmer.proofs.Laws.{counted as bytes_counted}
 use Rattle.trimmer.specs.Entry.{DoneWith, TrimLeft, TrimList, counts_of, trim_lent, verdict}
-use Rattle.answer.specs.Entry.{AnswerText, OutLeft, WritesPrinted}
+use Rattle.answer.specs.Entry.{WritesPrinted}
 use Rattle.answer.specs.Printed.{PrintsGates, trim_lines}
 
 -- ---- the trim of a circuit that a text says, with room lent for D and the log
