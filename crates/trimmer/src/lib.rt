@@ -22,12 +22,7 @@ use trimmed::Counts;
 use weights::put_odd_set;
 
 // Trims a circuit: writes D into `out` and the moves into `log`. A refusal leaves both as they were.
-pub fn trim(
-    n: usize,
-    gates: &[u8],
-    out: &mut [u8],
-    log: &mut [MoveCell],
-) -> Result<Counts, Refusal>
+pub fn trim(n: usize, gates: &[u8], out: &mut [u8], log: &mut [MoveCell]) -> Result<Counts, Refusal>
     ensures { TrimList n gates.now out.old log.old out.new log.new result }
 {
     check_list(n, gates, check_trim_lent(out.len(), log.len()))?;
