@@ -9,7 +9,8 @@ use Rattle.circuit.specs.Gate.{Gate, bytes_of, gate, gate_of, gates_of}
 use Rattle.circuit.specs.Limits.{gate_bytes}
 
 -- a slice cut into threes
-pub gates_chunked : (bytes : List ℕ) (k : ℕ) → k ≡ length bytes / gate_bytes → map gate_of (first_chunks gate_bytes k bytes) ≡ gates_of bytes
+pub gates_chunked : (bytes : List ℕ) (k : ℕ) → k ≡ length bytes / gate_bytes
+    → map gate_of (first_chunks gate_bytes k bytes) ≡ gates_of bytes
 unfolding gates_of
 gates_chunked [] zero e = refl
 gates_chunked (kind ∷ []) zero e = refl

@@ -19,7 +19,15 @@ use Rattle.circuit.specs.Gate.{Cnot, Phase, Unknown}
 -- a byte that is none of the kinds
 pub no_kind : (kind : ℕ) → kind ≢ CNOT → kind ≢ T → kind ≢ S → kind ≢ Z → kind ≢ S_DAGGER → kind ≢ T_DAGGER → kind_of kind ≡ Unknown
 unfolding kind_of
-no_kind kind a b c d e f = simp (ne_eqb kind CNOT a, ne_eqb kind T b, ne_eqb kind S c, ne_eqb kind Z d, ne_eqb kind S_DAGGER e, ne_eqb kind T_DAGGER f)
+no_kind kind a b c d e f =
+    simp (
+      ne_eqb kind CNOT a,
+      ne_eqb kind T b,
+      ne_eqb kind S c,
+      ne_eqb kind Z d,
+      ne_eqb kind S_DAGGER e,
+      ne_eqb kind T_DAGGER f,
+    )
 
 -- past the last kind there is none
 pub kind_above : (kind : ℕ) → last_kind < kind → kind_of kind ≡ Unknown

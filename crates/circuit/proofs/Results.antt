@@ -5,8 +5,8 @@ use Prim.Native.Nat.{suc, zero, ℕ}
 use native.Mathlib.Omega.{arith}
 use Rattle.circuit.specs.Told.{number}
 use Rattle.circuit.specs.declared.faults.Fault.{Fault}
-use Rattle.circuit.specs.declared.faults.Fault.TheVariants.{BadMove, GateKind, GateWire, LentOutput, ListLength, Malformed, RowRule, SameWire}
-use Rattle.circuit.specs.declared.faults.Fault.TheVariants.{SecondList, TableRule, WireCount}
+use Rattle.circuit.specs.declared.faults.Fault.TheVariants.{BadMove, GateKind, GateWire, LentOutput, ListLength, Malformed}
+use Rattle.circuit.specs.declared.faults.Fault.TheVariants.{RowRule, SameWire, SecondList, TableRule, WireCount}
 use Rattle.circuit.specs.declared.faults.Refusal.{Refusal}
 
 -- every fault has a number

@@ -4,8 +4,8 @@ use Rattle.circuit.specs.Faults.{bad_move, gate_kind, gate_wire, lent_output, li
 use Rattle.circuit.specs.Faults.{table_rule, wire_count}
 use Rattle.circuit.specs.Replies.{Done, Refused, Reply}
 use Rattle.circuit.specs.declared.faults.Fault.{Fault}
-use Rattle.circuit.specs.declared.faults.Fault.TheVariants.{BadMove, GateKind, GateWire, LentOutput, ListLength, Malformed, RowRule, SameWire}
-use Rattle.circuit.specs.declared.faults.Fault.TheVariants.{SecondList, TableRule, WireCount}
+use Rattle.circuit.specs.declared.faults.Fault.TheVariants.{BadMove, GateKind, GateWire, LentOutput, ListLength, Malformed}
+use Rattle.circuit.specs.declared.faults.Fault.TheVariants.{RowRule, SameWire, SecondList, TableRule, WireCount}
 use Rattle.circuit.specs.declared.faults.Refusal.{Refusal}
 
 -- the number of a fault

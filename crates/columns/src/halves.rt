@@ -118,7 +118,7 @@ impl Search<'_> {
 }
 
 impl Products {
-    // Puts in the entry of each parity that `pick` gives for one of these. True where each of them has opened a slot, so that none depends on
+    // Puts in the entry of each parity that `pick` gives for one of these. True where each has opened a slot, so that none depends on
     // the others; it ends at the first that does.
     fn all_open<F: Fn(Parity) -> Option<Parity>>(
         &self,

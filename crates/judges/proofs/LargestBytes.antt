@@ -41,7 +41,10 @@ pub largest_from : {from r : ℕ} {table : List ℕ} → from ≤ length table
 largest_from {from} {r} {table} inside l =
     record {
       none_above = λ p a b. rw (← same p a) (m.none_above (p - from) (omega arith) (rw (length-drop from table) (omega arith)));
-      least = λ k h. m.least k (λ p a b. rw (get_or-drop from table p 0) (h (from + p) (omega arith) (omega (arith, rw (length-drop from table) at b))));
+      least =
+          λ k h. m.least k
+          (λ p a b. rw (get_or-drop from table p 0)
+          (h (from + p) (omega arith) (omega (arith, rw (length-drop from table) at b))));
     }
   where
     whole : take (length table - from) (drop from table) ≡ drop from table

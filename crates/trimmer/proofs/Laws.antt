@@ -53,7 +53,8 @@ module _ (n : ℕ) (bytes out log out' log' : List ℕ) where
   abbrev Left : Result Counts Refusal → Type 0
   Left r = TrimLeft (number_of (told r)) (counts_of r) n bytes out log out' log'
 
-  by_reply : (r : Result Counts Refusal) → told r ≡ Done → Left r → (r ≡ Ok (counts_of r)) × DoneWith n bytes out log out' log' (counts_of r)
+  by_reply : (r : Result Counts Refusal) → told r ≡ Done → Left r
+      → (r ≡ Ok (counts_of r)) × DoneWith n bytes out log out' log' (counts_of r)
   by_reply (Ok counts) e d = (refl, d)
   by_reply (Err refusal) e d = absurd (refused_not_done (number refusal.fault) refusal.place e)
 

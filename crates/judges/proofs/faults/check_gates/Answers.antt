@@ -21,11 +21,17 @@ turn n i items all inside e =
 
 pub returns-in-Err : goal.returns-in-Err
 returns-in-Err c =
-    fault_here c.args.n c.loop-place.place (number c.in-Err.fault) _ _ c.in-Err.ensures (numbered c.in-Err.fault) ∙ turn c.args.n c.loop-place.place c.gates-kind-items.result.now _ c.loop-place-test.true c.loop-place.invariant.1
+    let i = c.loop-place.place in
+    fault_here c.args.n i (number c.in-Err.fault) _ _ c.in-Err.ensures (numbered c.in-Err.fault)
+    ∙ turn c.args.n i c.gates-kind-items.result.now _ c.loop-place-test.true c.loop-place.invariant.1
 
 pub loop-place-preserved : goal.loop-place-preserved
 loop-place-preserved c =
-    (c.loop-place.invariant.0, fault_later c.args.n c.loop-place.place 0 _ _ c.in_default.ensures refl ∙ turn c.args.n c.loop-place.place c.gates-kind-items.result.now _ c.loop-place-test.true c.loop-place.invariant.1)
+    let i = c.loop-place.place in (
+      c.loop-place.invariant.0,
+      fault_later c.args.n i 0 _ _ c.in_default.ensures refl
+          ∙ turn c.args.n i c.gates-kind-items.result.now _ c.loop-place-test.true c.loop-place.invariant.1,
+    )
 
 pub returns : goal.returns
 returns c =
