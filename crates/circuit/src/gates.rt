@@ -1,7 +1,7 @@
 // Gates, three bytes each, and the kinds of gates, each once by name (document 01, "Gates and what they do"). Reading, judging and writing
 // ask here.
-ghost use Rattle.std.specs.Prelude.{◌≡◌, map};
-ghost use Rattle.circuit.specs.Gate.{gate_of, gates_of, kind_of};
+ghost use Rattle.std.specs.Prelude.{◌≡◌, ◌≤◌, map};
+ghost use Rattle.circuit.specs.Gate.{T, T_DAGGER, gate_of, gates_of, kind_of};
 ghost use Rattle.circuit.specs.Kinds.{kind_said, number_of, phase_said, says};
 
 use crate::faults::Fault;
@@ -30,13 +30,23 @@ impl TryFrom<u8> for GateKind {
     fn try_from(byte: u8) -> Result<GateKind, UnknownKind> {
         match byte {
             1 => Ok(GateKind::Cnot),
-            2 => Ok(GateKind::T),
-            3 => Ok(GateKind::S),
-            4 => Ok(GateKind::Z),
-            5 => Ok(GateKind::SDagger),
-            6 => Ok(GateKind::TDagger),
+            2..=6 => Ok(phase_gate(byte)),
             _ => Err(UnknownKind),
         }
+    }
+}
+
+// The phase gate of a kind byte.
+fn phase_gate(byte: u8) -> GateKind
+    requires { (T ≤ byte) × (byte ≤ T_DAGGER) }
+    ensures { number_of result ≡ byte }
+{
+    match byte {
+        2 => GateKind::T,
+        3 => GateKind::S,
+        4 => GateKind::Z,
+        5 => GateKind::SDagger,
+        _ => GateKind::TDagger,
     }
 }
 

@@ -26,7 +26,8 @@ use scan::scan;
 pub fn find(n: usize, marks: &[Mark], cells: &mut [MoveCell]) -> Result<Sought, Refusal>
     ensures { FindMove n marks.now cells.old cells.new result }
 {
-    let marks = check_call(n, check_lent(cells.len(), MOVE_CELLS), MAX_MARK, marks)?;
+    let lent = check_lent(cells.len(), MOVE_CELLS);
+    let marks = check_call(n, lent, MAX_MARK, marks)?;
     match search_by(&Products::new(), n, marks) {
         Some(found) => {
             cells.copy_from_slice(&found);

@@ -19,8 +19,9 @@ pub fn scan(n: usize, search: &Search) -> Option<Move>
     let most = n * (n - 1) / 2;
     let mut half = Half::new();
     let mut columns = Echelon::new();
+    let mut best = None;
     // Both loops go over numbers, z and the turn, which are places of no list.
-    for k in 1..1usize << n {
+    'search: for k in 1..1usize << n {
         let one = OneZ::new(k as Parity);
         half.for_z(search.products, search.members, one, most);
         columns.clear();
@@ -28,10 +29,11 @@ pub fn scan(n: usize, search: &Search) -> Option<Move>
             if let Some(a) = search.turn(one, i) {
                 let v = search.products.column(one, a);
                 if let Some(found) = offer(search.marks, a, one.z, v, &mut columns) {
-                    return Some(found);
+                    best = Some(found);
+                    break 'search;
                 }
             }
         }
     }
-    None
+    best
 }

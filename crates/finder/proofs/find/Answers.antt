@@ -5,9 +5,9 @@ use Rattle.finder.proofs.find.Goals as goal
 pub search_by-requires : goal.search_by-requires
 search_by-requires c =
     let ok = c.in_ok-marks.ensures in
-    rw ok.same (may_search c.args.n c.args.marks.now c.args.cells.now c.check_lent.ensures ok.fault)
+    rw ok.same (may_search c.args.n c.args.marks.now c.args.cells.now c.check_lent-lent.ensures ok.fault)
 
 pub returns-in-None : goal.returns-in-None
 returns-in-None c =
     let ok = c.in_ok-marks.ensures in
-    find_nothing c.args.n c.args.marks.now c.args.cells.now c.check_lent.ensures ok.fault (rw ok.same at c.in-None.ensures)
+    find_nothing c.args.n c.args.marks.now c.args.cells.now c.check_lent-lent.ensures ok.fault (rw ok.same at c.in-None.ensures)
