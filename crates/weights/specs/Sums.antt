@@ -1,26 +1,15 @@
--- The sum behind l, q and c: of the weights of the parities that name one wire, two or three.
-use Rattle.std.specs.Prelude.{List, [], ◌∷◌, Option, None, Some, ◌&&◌, ◌+◌, ◌^◌, cond, eqb, leb, ltb, suc, ℕ}
-use Rattle.std.specs.Int.Bits.{bit_and}
+-- The sum behind l, q and c: with i, j and k the same wire it is that of l, with two of them that of q.
+use Rattle.std.specs.Prelude.{List, ◌*◌, ◌<◌, ℕ}
+use Rattle.circuit.specs.Limits.{max_wires}
+use Rattle.gf2.specs.Bit.{bit}
 use Rattle.gf2.specs.Table.{weighted_sum}
 
--- 1 where p names all the wires of m, else 0
-abbrev pub names : ℕ → ℕ → ℕ
-names m p = cond (eqb (bit_and p m) m) 1 0
+-- the sum of the weights of parities with i, j and k
+abbrev pub sum_with : List ℕ → ℕ → ℕ → ℕ → ℕ
+sum_with w i j k = weighted_sum w (λ p. bit p i * bit p j * bit p k)
 
--- the sum of the weights of the parities that do
-abbrev pub sum_with : List ℕ → ℕ → ℕ
-sum_with w m = weighted_sum w (names m)
-
--- the parity of wires that ascend from `least` on and below n, with those of p
-abbrev pub parity_from : ℕ → ℕ → ℕ → List ℕ → Option ℕ
-parity_from n least p [] = Some p
-parity_from n least p (i ∷ is) = cond (leb least i && ltb i n) (parity_from n (suc i) (p + 2 ^ i) is) None
-
--- the sum for the parity that there may be
-abbrev pub sum_for : List ℕ → Option ℕ → ℕ
-sum_for w (Some m) = sum_with w m
-sum_for w None = 0
-
--- the sum for wires, where they ascend below n; else 0
-abbrev pub sum_of : ℕ → List ℕ → List ℕ → ℕ
-sum_of n w wires = sum_for w (parity_from n 0 0 wires)
+-- wires that the code takes
+pub record WiresBelow (i j k : ℕ) : Type 0 where
+  pub i_below : i < max_wires
+  pub j_below : j < max_wires
+  pub k_below : k < max_wires

@@ -1,33 +1,28 @@
 // Lists of the coefficients, for wires i < j < k below n, and 0 elsewhere (document 01, "Signature"). Internal: the caller has found no
 // fault.
-ghost use Rattle.std.specs.Prelude.{◌≡◌, ℕ, ◌<◌, get_or, length};
-ghost use Rattle.weights.specs.Lists.{ListsOf};
+ghost use Rattle.std.specs.Prelude.{◌≡◌, ℕ, ◌<◌, ◌≤◌, get_or, length};
+ghost use Rattle.circuit.specs.Limits.{max_wires, parities};
+ghost use Rattle.weights.specs.Lists.{ListsOf, c_entry, l_entry, q_entry};
 
-use crate::sums::sum_of;
-use circuit::limits::{Coefficient, MAX_WIRES, PAIR_BYTES, TABLE_BYTES, TRIPLE_BYTES, Weight};
+use crate::sums::{c_of, l_of, q_of};
+use circuit::limits::{Coefficient, MAX_WIRES, PAIR_BYTES, TRIPLE_BYTES, Weight};
 
-// The three lists: l(i) at i, q(i, j) at N j + i, c(i, j, k) at N N k + N j + i, where N is MAX_WIRES. l is the sum for its wire modulo 8,
-// q minus the sum for its two modulo 4, c the sum for its three modulo 2: remainders that are never negative, and 0 at multiples.
+// The three lists: l(i) at i, q(i, j) at N j + i, c(i, j, k) at N N k + N j + i, where N is MAX_WIRES.
 pub fn put_lists(
     n: usize,
-    w: &[Weight; TABLE_BYTES],
+    w: &[Weight],
     l: &mut [Coefficient; MAX_WIRES],
     q: &mut [Coefficient; PAIR_BYTES],
     c: &mut [Coefficient; TRIPLE_BYTES],
 )
+    requires { length w.now ≤ parities }
     ensures { ListsOf n w.now l.new q.new c.new }
 {
-    put_list(l, |i| sum_of(n, w, &[i]).rem_euclid(8) as Coefficient);
-    put_list(q, |p| {
-        let i = p % MAX_WIRES;
-        let j = p / MAX_WIRES;
-        (-sum_of(n, w, &[i, j])).rem_euclid(4) as Coefficient
-    });
+    put_list(l, |i| l_entry(n, w, i));
+    put_list(q, |p| q_entry(n, w, p % MAX_WIRES, p / MAX_WIRES));
     put_list(c, |p| {
-        let i = p % MAX_WIRES;
         let j = p / MAX_WIRES % MAX_WIRES;
-        let k = p / PAIR_BYTES;
-        sum_of(n, w, &[i, j, k]).rem_euclid(2) as Coefficient
+        c_entry(n, w, p % MAX_WIRES, j, p / PAIR_BYTES)
     });
 }
 
@@ -38,5 +33,33 @@ fn put_list<F: Fn(usize) -> Coefficient>(list: &mut [Coefficient], entry: F)
 {
     for (p, x) in list.iter_mut().enumerate() {
         *x = entry(p);
+    }
+}
+
+// l(i) below n, 0 from there on.
+fn l_entry(n: usize, w: &[Weight], i: usize) -> Coefficient
+    requires { (length w.now ≤ parities) × (i < max_wires) }
+    ensures { result ≡ l_entry n w.now i }
+{
+    if i < n { l_of(w, i) } else { 0 }
+}
+
+// q(i, j) where i < j < n, else 0.
+fn q_entry(n: usize, w: &[Weight], i: usize, j: usize) -> Coefficient
+    requires { (length w.now ≤ parities) × (j < max_wires) }
+    ensures { result ≡ q_entry n w.now i j }
+{
+    if i < j && j < n { q_of(w, i, j) } else { 0 }
+}
+
+// c(i, j, k) where i < j < k < n, else 0.
+fn c_entry(n: usize, w: &[Weight], i: usize, j: usize, k: usize) -> Coefficient
+    requires { (length w.now ≤ parities) × (k < max_wires) }
+    ensures { result ≡ c_entry n w.now i j k }
+{
+    if i < j && j < k && k < n {
+        c_of(w, i, j, k)
+    } else {
+        0
     }
 }

@@ -1,49 +1,57 @@
-// The sum of the weights of the parities that name certain wires, which the coefficients are made of. Internal.
-ghost use Rattle.std.specs.Prelude.{◌≡◌, ◌*◌, ◌<◌, ◌≤◌, None, Some, pos};
-ghost use Rattle.std.specs.List.{All};
+// The coefficients l, q and c of weights (document 01, "Signature"). Internal: the caller brings no more weights than there are parities,
+// and wires below the most.
+ghost use Rattle.std.specs.Prelude.{◌≡◌, ◌*◌, ◌<◌, ◌≤◌, pos, length};
+ghost use Rattle.gf2.specs.Bit.{bit};
 ghost use Rattle.circuit.specs.Limits.{max_wires, most_byte, parities};
-ghost use Rattle.weights.specs.Sums.{parity_from, sum_of, sum_with};
+ghost use Rattle.phase.specs.Coefficients.{c, l, q};
+ghost use Rattle.weights.specs.Sums.{WiresBelow, sum_with};
 
-use circuit::limits::{Parity, TABLE_BYTES, Weight};
-use circuit::parity::unit;
+use circuit::limits::{Coefficient, Parity, Weight};
 
-// The sum for these wires, where they ascend below n; else 0.
-pub fn sum_of(n: usize, w: &[Weight; TABLE_BYTES], wires: &[usize]) -> i32
-    requires { All (λ i. i < max_wires) wires.now }
-    ensures { (result ≡ pos (sum_of n w.now wires.now)) × (sum_of n w.now wires.now ≤ most_byte * parities) }
+// The sum of the weights of parities with i, modulo 8.
+pub fn l_of(w: &[Weight], i: usize) -> Coefficient
+    requires { (length w.now ≤ parities) × (i < max_wires) }
+    ensures { (result ≡ l w.now i) × (result < 8) }
 {
-    match parity_of(n, wires) {
-        Some(p) => sum_with(w, p),
-        None => 0,
-    }
+    sum_with(w, i, i, i).rem_euclid(8) as Coefficient
 }
 
-// The parity that names these wires, where they ascend below n.
-fn parity_of(n: usize, wires: &[usize]) -> Option<Parity>
-    requires { All (λ i. i < max_wires) wires.now }
-    ensures { result ≡ parity_from n 0 0 wires.now }
+// Minus the sum of the weights of parities with i and j, modulo 4: a remainder that is never negative, and 0 at multiples of four.
+pub fn q_of(w: &[Weight], i: usize, j: usize) -> Coefficient
+    requires { (length w.now ≤ parities) × (i < max_wires) × (j < max_wires) }
+    ensures { (result ≡ q w.now i j) × (result < 4) }
 {
-    let mut parity: Parity = 0;
-    let mut least = 0;
-    for &i in wires {
-        if i < least || i >= n {
-            return None;
-        }
-        parity |= unit(i);
-        least = i + 1;
-    }
-    Some(parity)
+    (-sum_with(w, i, j, j)).rem_euclid(4) as Coefficient
 }
 
-// The sum of the weights of the parities that name all the wires of one.
-fn sum_with(w: &[Weight; TABLE_BYTES], wires: Parity) -> i32
-    ensures { (result ≡ pos (sum_with w.now wires)) × (sum_with w.now wires ≤ most_byte * parities) }
+// The sum of the weights of parities with all three, modulo 2.
+pub fn c_of(w: &[Weight], i: usize, j: usize, k: usize) -> Coefficient
+    requires { (length w.now ≤ parities) × WiresBelow i j k }
+    ensures { result ≡ c w.now i j k }
+{
+    sum_with(w, i, j, k).rem_euclid(2) as Coefficient
+}
+
+// The sum of the weights of parities with i, j and k, which need not differ.
+fn sum_with(w: &[Weight], i: usize, j: usize, k: usize) -> i32
+    requires { (length w.now ≤ parities) × WiresBelow i j k }
+    ensures { (result ≡ pos (sum_with w.now i j k)) × (sum_with w.now i j k ≤ most_byte * parities) }
 {
     let mut s = 0;
     for (p, &x) in w.iter().enumerate() {
-        if p as Parity & wires == wires {
-            s += i32::from(x);
-        }
+        s += share(x, p as Parity, i, j, k);
     }
     s
+}
+
+// The weight x of p, if p names i, j and k.
+fn share(x: Weight, p: Parity, i: usize, j: usize, k: usize) -> i32
+    requires { WiresBelow i j k }
+    ensures { result ≡ pos (x * (bit p i * bit p j * bit p k)) }
+{
+    if (p >> i) % 2 == 1 && (p >> j) % 2 == 1 && (p >> k) % 2 == 1 {
+        i32::from(x)
+    } else {
+        0
+    }
 }

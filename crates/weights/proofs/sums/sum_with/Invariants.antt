@@ -5,4 +5,4 @@ use Rattle.weights.proofs.OneSum.{so_far}
 use Rattle.weights.proofs.sums.sum_with.Given as goal
 
 abbrev pub invariant-loop-p : goal.invariant-loop-p
-invariant-loop-p l = (l.s ≡ pos (so_far l.w l.wires l.p)) × (so_far l.w l.wires l.p ≤ most_byte * l.p)
+invariant-loop-p l = (l.s ≡ pos (so_far l.w l.i l.j l.k l.p)) × (so_far l.w l.i l.j l.k l.p ≤ most_byte * l.p)
