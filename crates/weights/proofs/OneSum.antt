@@ -87,18 +87,18 @@ square a (suc zero) h = omega arith
 square a (suc (suc b)) h = absurd (omega arith)
 
 module _ (w : List ℕ) where
-  l_by_sum : (i : ℕ) → sum_with w i i i % 8 ≡ l w i
+  pub l_by_sum : (i : ℕ) → sum_with w i i i % 8 ≡ l w i
   unfolding l
   l_by_sum i =
       ap (λ (s : ℕ). s % 8) (weighted_sum-ext w (λ p. bit p i * bit p i * bit p i) (λ p. bit p i) (λ p. cube (bit p i) (bit-lt p i)))
 
-  q_by_sum : (i j : ℕ) → (4 - sum_with w i j j % 4) % 4 ≡ q w i j
+  pub q_by_sum : (i j : ℕ) → (4 - sum_with w i j j % 4) % 4 ≡ q w i j
   unfolding q
   q_by_sum i j =
       ap (λ (s : ℕ). (4 - s % 4) % 4)
       (weighted_sum-ext w (λ p. bit p i * bit p j * bit p j) (λ p. bit p i * bit p j) (λ p. square (bit p i) (bit p j) (bit-lt p j)))
 
-  c_by_sum : (i j k : ℕ) → sum_with w i j k % 2 ≡ c w i j k
+  pub c_by_sum : (i j k : ℕ) → sum_with w i j k % 2 ≡ c w i j k
   unfolding c
   c_by_sum i j k = refl
 
