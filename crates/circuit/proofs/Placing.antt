@@ -1,11 +1,11 @@
 -- Bytes stored one after the other in a lent buffer.
-use mathlib.Core.List.{List, [], ◌∷◌, ◌++◌, append-nil}
+use mathlib.Core.List.{List, [], ◌∷◌, ◌++◌}
 use mathlib.Core.Path.{◌∙◌, ◌≡◌, ap, ap₂, refl, subst, sym}
 use Prim.Native.Nat.{◌+◌, ◌≤◌, suc, ℕ}
 use native.Mathlib.Nat.{le_refl, zero-add}
 use native.Mathlib.Numerals.{add-one, add-two}
 use native.Mathlib.Omega.{arith}
-use lib.ListN.{drop, drop_of_length-le, length, set, take, take-append-drop}
+use lib.ListN.{drop, length, set, take, take-append-drop}
 use lib.Seq.{drop-drop, drop-paste, length-paste, paste, sets, sets-eq, take-length}
 use Rattle.circuit.specs.Lent.{KeptFrom, placed}
 
@@ -26,10 +26,6 @@ three_stored l j a b c a' b' c' e f g = rw (e, f, g, add-one j, add-two j)
 
 placed_paste : (was : List ℕ) (at : ℕ) (these : List ℕ) → placed was at these ≡ paste was at these (length these)
 placed_paste was at these = ap (λ (x : List ℕ). take at was ++ x ++ drop (at + length these) was) (sym (take-length these))
-
--- as many as there are: nothing else is left
-pub placed_all : (was these : List ℕ) → length these ≡ length was → placed was 0 these ≡ these
-placed_all was these e = ap (λ (x : List ℕ). these ++ x) (drop_of_length-le was {i = 0 + length these} (omega arith)) ∙ append-nil these
 
 pub paste_placed : (was these : List ℕ) (at j : ℕ) → j ≡ length these → paste was at these j ≡ placed was at these
 paste_placed was these at j e = ap (paste was at these) e ∙ sym (placed_paste was at these)

@@ -7,21 +7,21 @@ use Rattle.circuit.specs.declared.gates.GateKind.TheVariants.{TDagger as AsTDagg
 use Rattle.circuit.specs.declared.gates.UnknownKind.{UnknownKind}
 
 -- the kind byte
-abbrev pub number_of : GateKind → ℕ
-number_of AsCnot = CNOT
-number_of AsT = T
-number_of AsS = S
-number_of AsZ = Z
-number_of AsSDagger = S_DAGGER
-number_of AsTDagger = T_DAGGER
+abbrev pub kind_byte : GateKind → ℕ
+kind_byte AsCnot = CNOT
+kind_byte AsT = T
+kind_byte AsS = S
+kind_byte AsZ = Z
+kind_byte AsSDagger = S_DAGGER
+kind_byte AsTDagger = T_DAGGER
 
 -- what a kind says
-abbrev pub says : GateKind → Kind
-says kind = kind_of (number_of kind)
+abbrev pub kind_says : GateKind → Kind
+kind_says kind = kind_of (kind_byte kind)
 
 -- what a byte says that is a kind, or is none
 abbrev pub kind_said : Result GateKind UnknownKind → Kind
-kind_said (Ok kind) = says kind
+kind_said (Ok kind) = kind_says kind
 kind_said (Err unknown) = Unknown
 
 -- what a gate says that adds so much to the phase, or is a CNOT

@@ -11,3 +11,4 @@ pub mod TableFaults
 pub mod Replies
 pub mod Told
 pub mod Kinds
+pub mod Bits

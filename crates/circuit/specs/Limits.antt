@@ -83,3 +83,7 @@ write_bytes = gate_bytes * max_written_gates
 -- the most that a byte holds: what is summed before it is judged may be any bytes
 abbrev pub most_byte : ℕ
 most_byte = 255
+
+-- a mask is a machine word of so many bits
+abbrev pub word_bits : ℕ
+word_bits = 64

@@ -1,7 +1,4 @@
 // The faults of document 01, each once by name with its number, and why a call is refused.
-ghost use Rattle.std.specs.Prelude.{◌≡◌};
-ghost use Rattle.circuit.specs.Told.{number};
-
 #[derive(Clone, Copy, Debug, PartialEq, Eq)]
 pub enum Fault {
     WireCount = 1,
@@ -17,11 +14,14 @@ pub enum Fault {
     SecondList = 11,
 }
 
-impl Fault {
-    pub fn number(self) -> u8
-        ensures { result ≡ number self }
-    {
-        self as u8
+impl From<Fault> for u8 {
+    ghost use Rattle.std.specs.Prelude.{◌≡◌};
+    ghost use Rattle.circuit.specs.Told.{number};
+
+    ghost from_gives = { λ fault byte. byte ≡ number fault };
+
+    fn from(fault: Fault) -> u8 {
+        fault as u8
     }
 }
 

@@ -2,7 +2,7 @@
 // ask here.
 ghost use Rattle.std.specs.Prelude.{◌≡◌, ◌≤◌, map};
 ghost use Rattle.circuit.specs.Gate.{T, T_DAGGER, gate_of, gates_of, kind_of};
-ghost use Rattle.circuit.specs.Kinds.{kind_said, number_of, phase_said, says};
+ghost use Rattle.circuit.specs.Kinds.{kind_byte, kind_said, kind_says, phase_said};
 
 use crate::faults::Fault;
 use crate::limits::{GATE_BYTES, Weight};
@@ -39,7 +39,7 @@ impl TryFrom<u8> for GateKind {
 // The phase gate of a kind byte.
 fn phase_gate(byte: u8) -> GateKind
     requires { (T ≤ byte) × (byte ≤ T_DAGGER) }
-    ensures { number_of result ≡ byte }
+    ensures { kind_byte result ≡ byte }
 {
     match byte {
         2 => GateKind::T,
@@ -61,7 +61,7 @@ impl From<UnknownKind> for Fault {
 }
 
 impl From<GateKind> for u8 {
-    ghost from_gives = { λ kind byte. byte ≡ number_of kind };
+    ghost from_gives = { λ kind byte. byte ≡ kind_byte kind };
 
     fn from(kind: GateKind) -> u8 {
         kind as u8
@@ -72,7 +72,7 @@ impl GateKind {
     // What a phase gate adds, in eighths of a turn; nothing where it is a CNOT.
     #[tactic(auto, unfolding(crate::specs::Gate::kind_of))]
     pub fn phase(self) -> Option<Weight>
-        ensures { phase_said result ≡ says self }
+        ensures { phase_said result ≡ kind_says self }
     {
         match self {
             GateKind::Cnot => None,

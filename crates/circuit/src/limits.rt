@@ -2,10 +2,12 @@
 // hold the two together. Another width is another MAX_WIRES, with a Parity that holds its parities.
 
 // A parity: bit i for wire i. Rows are parities, and so are the masks of wires that CNOTs are written by. It is a plain number, and clauses
-// say that it is below PARITIES: C lends rows, moves and logs as numbers, which a struct with that fact could not lie among.
+// say that it is below PARITIES: C lends rows, moves and logs as numbers, among which no struct could lie, and a Parity of more bits than
+// there are wires holds numbers that are no parities.
 pub type Parity = u8;
 
-// A weight, 0 to 7. Weights and marks are lent as bytes and changed where they lie, so that clauses say which are sound, and no struct.
+// A weight, 0 to 7. Clauses say which weights and marks are sound, and no struct does: C lends them as bytes, and those that the trim owns
+// are changed where they lie.
 pub type Weight = u8;
 
 // A mark of an odd set, 0 or 1.

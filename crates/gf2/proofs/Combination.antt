@@ -5,16 +5,16 @@ use Prim.Native.Nat.{◌%◌, ◌*◌, ◌/◌, ◌<◌, ◌^◌, suc, suc-le-su
 use native.Mathlib.Nat.{zero-mul}
 use native.Mathlib.Numerals.{add-one}
 use native.Mathlib.Omega.{arith}
-use lib.Bits.{bit_xor, xor_lt, xor_self, xor_zero_l, xor_zero_r}
+use lib.Bits.{bit_xor, xor_self, xor_zero_l, xor_zero_r}
 use lib.ListN.{get_or, length, set}
-use lib.Pow.{field, mod-mod-pow, pow_pos}
+use lib.Pow.{field, mod-mod-pow}
 use lib.Seq.{get_or-set_same}
 use Rattle.gf2.proofs.Bit.{bit-lt}
-use Rattle.gf2.proofs.Selection.{combine-none, combine-one, combine-scale, combine-set, combine-xor, scale_lt}
+use Rattle.gf2.proofs.Selection.{combine-none, combine-one, combine-scale, combine-set, combine-xor}
 use Rattle.gf2.proofs.Xor.{xor_assoc, xor_cancel}
 use Rattle.gf2.specs.Bit.{bit}
 use Rattle.gf2.specs.Echelon.{SpanBoth}
-use Rattle.gf2.specs.Over.{Below, xor_all}
+use Rattle.gf2.specs.Over.{xor_all}
 use Rattle.gf2.specs.Selection.{combine}
 
 -- a mask counts below the length of the list only
@@ -26,14 +26,6 @@ combine-whole u (y ∷ ys) =
     let low : u % 2 ^ suc k % 2 ≡ u % 2 = ap (λ (j : ℕ). u % 2 ^ j % 2) (sym (add-one k)) ∙ mod-mod-pow u k 1 in
     let up : u % 2 ^ suc k / 2 ≡ (u / 2) % 2 ^ k = ap (λ (j : ℕ). u % 2 ^ j / 2) (sym (add-one k)) ∙ field u k 1 in
     rw (low, up, combine-whole (u / 2) ys)
-
--- numbers of k bits
-pub combine-lt : (k u : ℕ) (ys : List ℕ) → Below (2 ^ k) ys → combine u ys < 2 ^ k
-unfolding combine
-combine-lt k u [] h = pow_pos k
-combine-lt k u (y ∷ ys) h =
-    xor_lt k (u % 2 * y) (combine (u / 2) ys) (scale_lt (u % 2) y (2 ^ k) (omega arith) (h 0 (suc-le-suc zero-le)))
-    (combine-lt k (u / 2) ys (λ i l. h (suc i) (suc-le-suc l)))
 
 -- one number replaced
 pub combine-put : (u s x : ℕ) (ys : List ℕ) → s < length ys

@@ -110,3 +110,8 @@ next_bit N w m s wide =
           ap (bit m) e ∙ sym (bit-from m s (j - s)) ∙ bit-under w (m / 2 ^ s) (j - s) (omega arith);
       on = λ l. sym (bit-from m s (count_trailing_zeros w (m / 2 ^ s))) ∙ bit-counted w (m / 2 ^ s) (omega arith);
     }
+
+-- where none is set below N, N stands for it
+pub next_none : {N m k r : ℕ} → NextBit N m k r → k ≤ N → N ≤ r → NextBit N m k N
+next_none n inside past =
+    record { from = inside; passed = λ j g l. n.passed j g (omega arith); on = λ l. absurd (omega arith) }

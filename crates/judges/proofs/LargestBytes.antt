@@ -1,9 +1,9 @@
--- The largest byte: the steps of the loop that finds it; and what two of them say of a table.
-use mathlib.Core.List.{List}
+-- The largest byte, by holding each against those before it; and what two of them say of a table.
+use mathlib.Core.List.{List, [], ◌∷◌}
 use mathlib.Core.Logic.{◌≢◌}
 use mathlib.Core.Path.{◌≡◌, ◌∙◌, ap, refl, sym}
-use Prim.Native.Nat.{◌+◌, ◌-◌, ◌<◌, ◌^◌, ◌≤◌, max, min, ℕ}
-use native.Mathlib.Decide.{dec_le, dec_lt, ℕ_discrete}
+use Prim.Native.Nat.{◌+◌, ◌-◌, ◌<◌, ◌^◌, ◌≤◌, max, min, suc, zero, ℕ}
+use native.Mathlib.Decide.{dec_le, dec_lt}
 use native.Mathlib.Omega.{arith}
 use lib.ListN.{drop, get_or-eq_default, get_or, length, length-drop, take}
 use lib.Pow.{pow_mono}
@@ -11,25 +11,28 @@ use lib.Seq.{get_or-drop, take-length}
 use Rattle.circuit.proofs.TableRule.{at_most, high_none, most_at_none, ruled, table_unruled, table_well}
 use Rattle.circuit.specs.Faults.{table_rule}
 use Rattle.circuit.specs.TableFaults.{table_fault}
-use Rattle.judges.specs.Largest.{Largest}
+use Rattle.judges.specs.Largest.{AllAtMost, Largest}
+use Rattle.std.specs.List.{fold}
 
--- ---- the loop
+-- ---- each byte held against the largest of those before it
 
-pub largest_none : {from : ℕ} {table : List ℕ} → Largest from from table 0
-largest_none = record { none_above = λ p a b. absurd (omega arith); least = λ m h. omega arith }
+-- what comes of them: not below the first of all, nor below a byte; and not above what is above these
+max_next : {x m : ℕ} (bytes : List ℕ) → x ≤ m → AllAtMost 0 (length bytes) bytes m → AllAtMost 0 (suc (length bytes)) (x ∷ bytes) m
+max_next bytes first rest zero l h = first
+max_next bytes first rest (suc p) l h = rest p (omega arith) (omega arith)
 
--- x stands at p
-pub largest_next : {from p r r' x : ℕ} {table : List ℕ} → from ≤ p → Largest from p table r → x ≡ get_or table p 0 → r' ≡ max x r
-    → Largest from (p + 1) table r'
-largest_next {from} {p} {r} {r'} {x} {table} start l e w =
-    record {
-      none_above = λ q a b. at q a b (ℕ_discrete q p);
-      least = λ m h. omega (arith, w, e, l.least m (λ q a b. h q a (omega arith)), h p start (omega arith));
-    }
-  where
-    at : (q : ℕ) → from ≤ q → q < p + 1 → Dec (q ≡ p) → get_or table q 0 ≤ r'
-    at q a b (yes same) = rw same (omega (arith, e, w))
-    at q a b (no other) = omega (arith, l.none_above q a (omega arith), w)
+max_bounds : (a : ℕ) (bytes : List ℕ) → (a ≤ fold (λ most byte. max byte most) a bytes)
+    × AllAtMost 0 (length bytes) bytes (fold (λ most byte. max byte most) a bytes)
+max_bounds a [] = (omega arith, λ p l h. absurd (omega arith))
+max_bounds a (x ∷ bytes) = let rest = max_bounds (max x a) bytes in (omega (arith, rest.0), max_next bytes (omega (arith, rest.0)) rest.1)
+
+max_least : (a m : ℕ) (bytes : List ℕ) → a ≤ m → AllAtMost 0 (length bytes) bytes m → fold (λ most byte. max byte most) a bytes ≤ m
+max_least a m [] l h = l
+max_least a m (x ∷ bytes) l h =
+    max_least (max x a) m bytes (omega (arith, h 0 (omega arith) (omega arith))) (λ p g k. h (suc p) (omega arith) (omega arith))
+
+pub largest_by_max : (bytes : List ℕ) → Largest 0 (length bytes) bytes (fold (λ most byte. max byte most) 0 bytes)
+largest_by_max bytes = record { none_above = (max_bounds 0 bytes).1; least = λ m h. max_least 0 m bytes (omega arith) h }
 
 pub largest_all : {from to p r : ℕ} {table : List ℕ} → Largest from p table r → p ≡ to → Largest from to table r
 largest_all l e = rw (← e) l

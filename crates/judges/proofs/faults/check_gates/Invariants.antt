@@ -9,4 +9,4 @@ use Rattle.judges.proofs.faults.check_gates.Given as goal
 abbrev pub invariant-loop-place : goal.invariant-loop-place
 invariant-loop-place l =
     (map gate_of l.kind-items ≡ gates_of l.list)
-    × (first_fault l.n l.place (map gate_of (drop l.place l.kind-items)) ≡ first_fault l.n 0 (gates_of l.list))
+    × (first_fault l.n l.place-counter (map gate_of (drop l.place-counter l.kind-items)) ≡ first_fault l.n 0 (gates_of l.list))

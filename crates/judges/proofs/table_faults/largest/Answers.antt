@@ -1,14 +1,12 @@
--- The largest of the bytes passed.
-use mathlib.Core.Path.{refl}
-use native.Mathlib.Omega.{arith}
-use Rattle.judges.proofs.LargestBytes.{largest_all, largest_next, largest_none}
+-- Each byte is held against the largest of those before it.
+use mathlib.Core.Path.{◌≡◌}
+use Prim.Native.Nat.{max}
+use borrow.Author.Rules.{rules}
+use Rattle.std.specs.List.{fold}
+use Rattle.judges.proofs.LargestBytes.{largest_by_max}
 use Rattle.judges.proofs.table_faults.largest.Goals as goal
 
-pub loop-byte-init : goal.loop-byte-init
-loop-byte-init c = largest_none
-
-pub loop-byte-preserved : goal.loop-byte-preserved
-loop-byte-preserved c = largest_next (omega arith) c.loop-byte.invariant refl c.max-most.ensures
-
 pub returns : goal.returns
-returns c = largest_all c.loop-byte.invariant (omega arith)
+returns c =
+    let joined : c.fold.result ≡ fold (λ most byte. max byte most) 0 c.args.bytes.now = search rules in
+    rw joined (largest_by_max c.args.bytes.now)
