@@ -1,7 +1,7 @@
 -- The column that code computes; and for fewer wires than the table has room for, the column is the same.
 use mathlib.Core.Path.{◌≡◌}
 use Prim.Native.Nat.{◌<◌, ◌^◌, ◌≤◌, ℕ}
-use Rattle.circuit.specs.Limits.{max_wires, product_bits}
+use Rattle.circuit.specs.Limits.{max_wires}
 use Rattle.moves.proofs.OneXor.{bar_lt}
 use Rattle.moves.proofs.Products.{product-wires}
 use Rattle.moves.specs.Column.{bar, column}
@@ -14,6 +14,6 @@ unfolding column
 column_wires n N z t y h lz ly = product-wires n N (bar z t y) h (bar_lt n z t y lz ly)
 
 -- the entry that code looks up
-pub column_is : (z t y r : ℕ) → ProductEntry (bar z t y) r → (r ≡ column max_wires z t y) × (r < 2 ^ product_bits)
+pub column_is : (z t y r : ℕ) → ProductEntry (bar z t y) r → r ≡ column max_wires z t y
 unfolding column
-column_is z t y r p = (entry_is (bar z t y) r p, p.fits)
+column_is z t y r p = entry_is (bar z t y) r p

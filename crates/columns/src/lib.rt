@@ -41,7 +41,7 @@ impl OneZ {
     {
         OneZ {
             z,
-            t: leading(z as u64),
+            t: leading(u64::from(z)),
         }
     }
 }

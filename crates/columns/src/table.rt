@@ -1,11 +1,12 @@
 // The product table (document 01, "Signature"): a fixed entry for each parity, of one bit for each pair of wires i <= j.
-ghost use Rattle.std.specs.Prelude.{◌≡◌, ◌<◌, ◌^◌};
-ghost use Rattle.circuit.specs.Limits.{max_wires, parities, product_bits};
+ghost use Rattle.std.specs.Prelude.{◌≡◌, ◌<◌};
+ghost use Rattle.circuit.specs.Limits.{max_wires, parities};
 ghost use Rattle.columns.specs.Table.{ProductEntry, ProductTable};
 ghost use Rattle.moves.specs.Column.{column};
 
 use crate::OneZ;
 use circuit::limits::{PARITIES, Parity};
+use echelon::Column;
 use moves::partner::bar;
 
 const PRODUCTS: [u64; PARITIES] = [
@@ -280,18 +281,20 @@ impl Products {
     }
 
     // Bit j (j + 1) / 2 + i of entry p is set when p names both i and j.
-    pub fn entry(&self, p: Parity) -> u64
+    pub fn entry(&self, p: Parity) -> Column
         requires { p < parities }
-        ensures { ProductEntry p result }
+        ensures { ProductEntry p result.bits }
     {
-        self.entries[usize::from(p)]
+        Column {
+            bits: self.entries[usize::from(p)],
+        }
     }
 
     // The column of y for z and its wire t: the entry of the one of y and y ^ z that does not name t.
-    pub fn column(&self, one: OneZ, y: Parity) -> u64
+    pub fn column(&self, one: OneZ, y: Parity) -> Column
         requires { y < parities }
-        ensures { (result ≡ column max_wires one.z one.t y) × (result < 2 ^ product_bits) }
+        ensures { result.bits ≡ column max_wires one.z one.t y }
     {
-        self.entry(bar(one.z as u64, one.t, y as u64) as Parity)
+        self.entry(bar(u64::from(one.z), one.t, u64::from(y)) as Parity)
     }
 }

@@ -2,39 +2,31 @@
 use mathlib.Core.List.{List}
 use mathlib.Core.Logic.{◌≢◌}
 use mathlib.Core.Path.{◌∙◌, ◌≡◌, ap, sym}
-use Prim.Native.Nat.{◌+◌, ◌-◌, ◌<◌, ◌^◌, ◌≤◌, suc, ℕ}
+use Prim.Native.Nat.{◌<◌, ◌^◌, ◌≤◌, ℕ}
 use native.Mathlib.Decide.{dec_lt}
 use native.Mathlib.Omega.{arith}
 use lib.Bits.{bit_xor}
-use lib.Count.{leading_top, count_leading_zeros}
 use lib.ListN.{get_or}
 use lib.Pow.{pow_mono}
+use Rattle.circuit.specs.Bits.{AllPassed, Passed}
 use Rattle.circuit.specs.Limits.{product_bits}
+use Rattle.circuit.specs.declared.bits.BitsOf.{BitsOf}
 use Rattle.gf2.proofs.Basis.{by_off, by_on}
 use Rattle.gf2.proofs.Echelon.{reached_step, step_lt}
 use Rattle.gf2.proofs.Steady.{steady}
-use Rattle.gf2.specs.Bit.{bit}
+use Rattle.gf2.specs.Bit.{NextBit, bit}
 use Rattle.gf2.specs.Echelon.{Reached, Shape, Stopped, by_members}
-use Rattle.echelon.specs.Slots.{LeadingBit, NextSlot}
+use Rattle.echelon.specs.Slots.{LeadingBit}
 
--- ---- the leading bit, from the count of zeros above it in a word of w + 1 bits
+-- ---- the leading bit
 
-pub zeros_lt : (w x : ℕ) → x ≢ 0 → x < 2 ^ suc w → count_leading_zeros (suc w) x ≤ w
-zeros_lt w x ne l = let t = leading_top (suc w) x (omega arith) l in omega (arith, t.1)
-
--- a number of N bits has its leading bit below N
-leads_below : (N x s : ℕ) → x < 2 ^ N → 2 ^ s ≤ x → s < N
+-- the leading bit of a number below 2^N is one of N
+pub leads_below : (N x s : ℕ) → x < 2 ^ N → 2 ^ s ≤ x → s < N
 leads_below N x s l lo = go (dec_lt s N)
   where
     go : Dec (s < N) → s < N
     go (yes h) = h
     go (no g) = absurd (omega (arith, pow_mono {i = N} {j = s} (omega arith)))
-
-pub leading_bit : (w x : ℕ) → x ≢ 0 → x < 2 ^ suc w → x < 2 ^ product_bits → LeadingBit x (w - count_leading_zeros (suc w) x)
-leading_bit w x ne l h =
-    let t = leading_top (suc w) x (omega arith) l in
-    let e : w - count_leading_zeros (suc w) x ≡ t.0 = omega (arith, t.1) in
-    rw e (record { slot = leads_below product_bits x t.0 h t.2; lo = t.2; hi = t.3 })
 
 -- ---- one step of reducing
 
@@ -52,37 +44,38 @@ module _ {vec : List ℕ} {left s : ℕ} (shape : Shape product_bits vec) (b : L
       → Reached vec v (bit_xor left (get_or vec s 0)) (bit_xor used (2 ^ s))
   taken {v} {used} ne r = reached_step vec product_bits v left used s shape b.slot b.lo b.hi ne r
 
--- ---- from one slot of a mask to the next
-
--- it names none from k on
-pub next_none : {m k r : ℕ} → NextSlot m k r → k ≤ product_bits → product_bits ≤ r → NextSlot m k product_bits
-next_none n inside past =
-    record { from = inside; passed = λ j g l. n.passed j g (omega arith); on = λ l. absurd (omega arith) }
-
 -- ---- from slots to members: the loop over the slots
 
--- those below k were gone through, and m is the mask so far
-pub record MaskTo (by : List ℕ) (used m k : ℕ) : Type 0 where
-  pub is : m ≡ by_members by used k
+-- those passed were gone through, and the mask is that so far
+pub record MaskTo (by : List ℕ) (used : ℕ) (l : BitsOf) : Type 0 where
+  pub end_is : l.end ≡ product_bits
+  pub is : l.mask ≡ by_members by used l.from
 
-pub mask_start : (by : List ℕ) {used m k : ℕ} → m ≡ used → k ≡ 0 → MaskTo by used m k
+pub mask_start : (by : List ℕ) {used : ℕ} {l : BitsOf} → (l.mask ≡ used) × (l.from ≡ 0) × (l.end ≡ product_bits) → MaskTo by used l
 unfolding by_members
-mask_start by e z = record { is = rw z e }
+mask_start by t = record { end_is = t.2; is = rw t.1 t.0 }
 
-module _ {by : List ℕ} {used m k : ℕ} (h : MaskTo by used m k) where
+module _ {by : List ℕ} {used : ℕ} {l : BitsOf} (h : MaskTo by used l) where
   -- those up to the next that the mask names change nothing
-  pub mask_at : {s : ℕ} → NextSlot m k s → m ≡ by_members by used s
+  mask_at : {s : ℕ} → NextBit l.end l.mask l.from s → l.mask ≡ by_members by used s
   mask_at {s} next =
       h.is
-      ∙ sym (steady (by_members by used) k s next.from
+      ∙ sym (steady (by_members by used) l.from s next.from
       (λ j f i e. by_off by used j (ap (λ (x : ℕ). bit x j) (e ∙ sym h.is) ∙ next.passed j f i) ∙ e))
 
-  pub mask_turn : {s m' k' : ℕ} → s < product_bits → NextSlot m k s → m' ≡ bit_xor m (get_or by s 0) → k' ≡ s + 1
-      → MaskTo by used m' k'
-  mask_turn {s} l next e f =
-      let is : m ≡ by_members by used s = mask_at next in
-      rw (e, f) (record {
+  -- those that were taken off the column of the next are turned over
+  pub mask_turn : {s : ℕ} {l' l'' : BitsOf} → Passed l s l'
+      → (l''.mask ≡ bit_xor l'.mask (get_or by s 0)) × (l''.from ≡ l'.from) × (l''.end ≡ l'.end) → MaskTo by used l''
+  mask_turn {s} p t =
+      let is : l.mask ≡ by_members by used s = mask_at p.next in
+      record {
+        end_is = t.2 ∙ p.end_is ∙ h.end_is;
         is =
-            ap (λ (x : ℕ). bit_xor x (get_or by s 0)) is
-            ∙ sym (by_on by used s (ap (λ (x : ℕ). bit x s) (sym is) ∙ next.on l));
-      })
+            rw (t.0, p.mask_is, t.1, p.from_is)
+            (ap (λ (x : ℕ). bit_xor x (get_or by s 0)) is
+            ∙ sym (by_on by used s (ap (λ (x : ℕ). bit x s) (sym is) ∙ p.next.on p.inside)));
+      }
+
+  -- all slots were passed
+  pub mask_end : {l' : BitsOf} → AllPassed l l' → l'.mask ≡ by_members by used product_bits
+  mask_end p = rw (p.same, ← h.end_is) (mask_at p.none)

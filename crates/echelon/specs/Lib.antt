@@ -1,3 +1,2 @@
 pub mod Slots
-pub mod Mask
 pub mod Columns

@@ -2,7 +2,7 @@
 use Rattle.std.specs.Prelude.{List, ◌≡◌, ◌<◌, ◌^◌, ◌≤◌, length, suc, ℕ, set}
 use Rattle.circuit.specs.Limits.{parities, product_bits}
 use Rattle.gf2.specs.Over.{Below}
-use Rattle.gf2.specs.Bit.{NextBit, bit}
+use Rattle.gf2.specs.Bit.{bit}
 use Rattle.gf2.specs.Echelon.{AllHold, Shape, Stopped, held}
 
 -- the leading bit of x is bit s, and s is a slot
@@ -32,7 +32,3 @@ pub record OpensSlot (v : ℕ) (vec vec' : List ℕ) : Type 0 where
 pub record SlotMembers (member : List ℕ) : Type 0 where
   pub long : length member ≡ product_bits
   pub below : Below parities member
-
--- r is the first slot from s on that m names; where there is none, it is no slot
-abbrev pub NextSlot : ℕ → ℕ → ℕ → Type 0
-NextSlot m s r = NextBit product_bits m s r

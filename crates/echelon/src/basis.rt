@@ -1,9 +1,8 @@
 // The slots alone: which of them are filled, and what they hold. For the question whether there is a dependency at all, this is enough.
-ghost use Rattle.std.specs.Prelude.{◌≡◌, ◌<◌, ◌^◌};
-ghost use Rattle.circuit.specs.Limits.{product_bits};
+ghost use Rattle.std.specs.Prelude.{◌≡◌};
 ghost use Rattle.echelon.specs.Slots.{Masked, Within};
 
-use crate::leading;
+use crate::{Column, leading};
 use circuit::limits::PRODUCT_BITS;
 
 // The slots that the mask `filled` names hold what stands at their places in `vec`. What stands at the others means nothing, so an earlier
@@ -15,6 +14,7 @@ pub struct Slots {
     pub ghost masked: { Masked filled vec },
 }
 
+// What comes of a column when slots are taken off it. No Result: neither end is a fault, and both tell the slots that were taken.
 #[derive(Clone, Copy, Debug, PartialEq, Eq)]
 pub(crate) enum Reduced {
     // The slots in the mask xor to the number.
@@ -44,9 +44,8 @@ impl Slots {
     }
 
     // The column v goes in, unless it is a combination of the slots; says whether it has opened one.
-    pub fn grow(&mut self, v: u64) -> bool
-        requires { v < 2 ^ product_bits }
-        ensures { Grows v self.old self.new result }
+    pub fn grow(&mut self, v: Column) -> bool
+        ensures { Grows v.bits self.old self.new result }
     {
         match self.reduce(v) {
             Reduced::Dependent { .. } => false,
@@ -66,11 +65,10 @@ impl Slots {
     }
 
     // Takes slots off v, each time the one at its leading bit.
-    pub(crate) fn reduce(&self, v: u64) -> Reduced
-        requires { v < 2 ^ product_bits }
-        ensures { Reduces self.now v result }
+    pub(crate) fn reduce(&self, v: Column) -> Reduced
+        ensures { Reduces self.now v.bits result }
     {
-        let mut left = v;
+        let mut left = v.bits;
         let mut used: u64 = 0;
         while left != 0 {
             let slot = leading(left);

@@ -9,14 +9,21 @@ ghost use Rattle.gf2.specs.Echelon.{by_members};
 ghost use Rattle.echelon.specs.Slots.{LeadingBit, SlotMembers};
 
 pub mod basis;
-pub mod mask;
 
 use basis::{Reduced, Slots};
+use circuit::bits::BitsOf;
 use circuit::limits::{PRODUCT_BITS, Parity};
-use mask::SlotsOf;
+
+// A column, or an entry of the product table, which is the column of its parity: a number with a bit for each slot, and no others.
+#[derive(Clone, Copy, Debug, PartialEq, Eq)]
+pub struct Column {
+    pub bits: u64,
+    pub ghost narrow: { bits < 2 ^ product_bits },
+}
 
 // The slots, and what stands beside them: the mask of the slots that were taken off a slot's column, and the member whose column it was.
-// These are arrays of their own, and not fields of one slot, since the numbers alone are what the quick elimination has (`Slots::grow`).
+// These are arrays of their own, and not fields of one slot: the numbers alone are what the quick elimination has (`Slots::grow`), the
+// masks what `by_members` reads, the members what a set is named by.
 #[derive(Drop)]
 pub struct Echelon {
     pub slots: Slots,
@@ -48,9 +55,9 @@ impl Echelon {
     }
 
     // The column v of y goes in, unless it is a combination of the slots: then these, as a mask.
-    pub fn insert(&mut self, y: Parity, v: u64) -> Option<u64>
-        requires { (y < parities) × (v < 2 ^ product_bits) }
-        ensures { Inserts y v self.old self.new result }
+    pub fn insert(&mut self, y: Parity, v: Column) -> Option<u64>
+        requires { y < parities }
+        ensures { Inserts y v.bits self.old self.new result }
     {
         match self.slots.reduce(v) {
             Reduced::Dependent { used } => Some(used),
@@ -68,7 +75,7 @@ impl Echelon {
     pub fn by_members(&self, used: u64) -> u64
         ensures { result ≡ by_members self.now.by used product_bits }
     {
-        let mut slots = SlotsOf::new(used);
+        let mut slots = BitsOf::new(used, PRODUCT_BITS);
         while let Some(s) = slots.next() {
             slots.turn_over(self.by[s]);
         }
@@ -81,5 +88,5 @@ pub fn leading(x: u64) -> usize
     requires { (x ≢ 0) × (x < 2 ^ product_bits) }
     ensures { LeadingBit x result }
 {
-    63 - x.leading_zeros() as usize
+    x.ilog2() as usize
 }

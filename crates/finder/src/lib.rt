@@ -12,11 +12,12 @@ pub mod scan;
 
 use circuit::faults::Refusal;
 use circuit::limits::{MAX_MARK, MOVE_CELLS, Mark, MoveCell, PARITIES, TABLE_BYTES};
+use circuit::wires::Wires;
 use columns::Search;
 use columns::table::Products;
 use judges::faults::check_lent;
 use judges::table_faults::check_call;
-use kernel::Move;
+use kernel::MoveCells;
 use members::gather;
 use moves::Sought;
 use scan::scan;
@@ -27,8 +28,8 @@ pub fn find(n: usize, marks: &[Mark], cells: &mut [MoveCell]) -> Result<Sought, 
     ensures { FindMove n marks.now cells.old cells.new result }
 {
     let lent = check_lent(cells.len(), MOVE_CELLS);
-    let marks = check_call(n, lent, MAX_MARK, marks)?;
-    match search_by(&Products::new(), n, marks) {
+    let (wires, marks) = check_call(n, lent, MAX_MARK, marks)?;
+    match search_by(&Products::new(), wires, marks) {
         Some(found) => {
             cells.copy_from_slice(&found);
             Ok(Sought::Found)
@@ -40,15 +41,19 @@ pub fn find(n: usize, marks: &[Mark], cells: &mut [MoveCell]) -> Result<Sought, 
 // The search with the product table lent: the members are gathered once, so that the scan goes through them alone. Internal: the caller has
 // found the marks sound. It is public for the trim, which has proved its marks sound and need not have them judged again before each move,
 // and which makes the table once for all moves.
-pub fn search_by(products: &Products, n: usize, marks: &[Mark; TABLE_BYTES]) -> Option<Move>
-    requires { Marked n marks.now }
-    ensures { Searched n marks.now result }
+pub fn search_by(
+    products: &Products,
+    wires: Wires,
+    marks: &[Mark; TABLE_BYTES],
+) -> Option<MoveCells>
+    requires { Marked wires.count marks.now }
+    ensures { Searched wires.count marks.now result }
 {
     let mut list = [0; PARITIES];
     let search = Search {
         products,
         marks,
-        members: gather(1 << n, marks, &mut list),
+        members: gather(wires.parities(), marks, &mut list),
     };
-    scan(n, &search)
+    scan(wires, &search)
 }

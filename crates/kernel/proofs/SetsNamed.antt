@@ -8,21 +8,20 @@ use native.Mathlib.Nat.{le_refl, one-mul, zero-mul}
 use native.Mathlib.Numerals.{add-one}
 use native.Mathlib.Omega.{arith}
 use lib.Bits.{bit_or, bit_xor, or_lt, xor_lt, xor_zero_r}
-use lib.ListN.{get_or, length, length-set, replicate, set}
-use lib.Seq.{get_or-set_other}
+use lib.ListN.{get_or, length, length-set, replicate, set, take}
+use lib.Seq.{get_or-set_other, get_or-take, length-take-le}
 use Rattle.circuit.proofs.OddSet.{members_sum}
+use Rattle.circuit.specs.Bits.{AllPassed, Passed}
 use Rattle.circuit.specs.Limits.{max_members, max_wires, move_cells, move_head, parities, product_bits, table_bytes}
 use Rattle.circuit.specs.OddSet.{member_count}
-use Rattle.circuit.specs.Sound.{weight}
-use Rattle.echelon.specs.Mask.{AllPassed, Passed}
-use Rattle.echelon.specs.Slots.{NextSlot, SlotMembers}
-use Rattle.echelon.specs.declared.mask.SlotsOf.{SlotsOf}
+use Rattle.echelon.specs.Slots.{SlotMembers}
+use Rattle.circuit.specs.declared.bits.BitsOf.{BitsOf}
 use Rattle.gf2.proofs.Combination.{combine-whole}
 use Rattle.gf2.proofs.Selection.{combine-first, combine-next}
 use Rattle.gf2.proofs.Steady.{steady}
 use Rattle.gf2.proofs.Table.{get_or-zeros}
 use Rattle.gf2.proofs.Xor.{or_left, or_right}
-use Rattle.gf2.specs.Bit.{bit}
+use Rattle.gf2.specs.Bit.{NextBit, bit}
 use Rattle.gf2.specs.Selection.{combine}
 use Rattle.gf2.specs.Sum.{sum}
 use Rattle.moves.proofs.Flips.{flip_bits}
@@ -100,21 +99,23 @@ flip_none : (w : List ℕ) (top top' q : ℕ) → top ≤ top' → q ≤ top' �
 flip_none w top top' q l g none p h = get_or-set_other w q p ((get_or w q 0 + 1) % 2) 0 (omega arith) ∙ none p (omega arith)
 
 -- those passed were gone through: the marks, their xor x, and what none of them is above
-pub record NamedTo (a m : ℕ) (member : List ℕ) (l : SlotsOf) (marks : List ℕ) (x top : ℕ) : Type 0 where
+pub record NamedTo (a m : ℕ) (member : List ℕ) (l : BitsOf) (marks : List ℕ) (x top : ℕ) : Type 0 where
   pub mask_is : l.mask ≡ m
+  pub end_is : l.end ≡ product_bits
   pub marks_are : marks ≡ named parities member m l.from
   pub xor_is : x ≡ combine (m % 2 ^ l.from) member
   pub a_to : a ≤ top
   pub fits : top < parities
   pub none : NoneFrom (top + 1) marks
 
-pub naming_start : (m : ℕ) (member : List ℕ) {a : ℕ} {l : SlotsOf} {marks : List ℕ} → a < parities → marks ≡ replicate table_bytes 0
-    → (l.mask ≡ m) × (l.from ≡ 0)
+pub naming_start : (m : ℕ) (member : List ℕ) {a : ℕ} {l : BitsOf} {marks : List ℕ} → a < parities → marks ≡ replicate table_bytes 0
+    → (l.mask ≡ m) × (l.from ≡ 0) × (l.end ≡ product_bits)
     → NamedTo a m member l marks 0 a
 unfolding named
 naming_start m member {a} fits e t =
     record {
       mask_is = t.0;
+      end_is = t.2;
       marks_are = rw t.1 e;
       xor_is = rw t.1 (xor_start m member);
       a_to = le_refl a;
@@ -122,41 +123,42 @@ naming_start m member {a} fits e t =
       none = λ p l. ap (λ (w : List ℕ). get_or w p 0) e ∙ get_or-zeros table_bytes p;
     }
 
-module _ {a m : ℕ} {member : List ℕ} {l : SlotsOf} {marks : List ℕ} {x top : ℕ} (h : NamedTo a m member l marks x top) where
+module _ {a m : ℕ} {member : List ℕ} {l : BitsOf} {marks : List ℕ} {x top : ℕ} (h : NamedTo a m member l marks x top) where
   -- the slots up to the next change nothing
-  marks_at : {s : ℕ} → NextSlot l.mask l.from s → marks ≡ named parities member m s
+  marks_at : {s : ℕ} → NextBit l.end l.mask l.from s → marks ≡ named parities member m s
   marks_at {s} next =
       h.marks_are
       ∙ sym (steady (named parities member m) l.from s next.from
       (λ j f i e. named_off parities member m j (rw h.mask_is at (next.passed j f i)) ∙ e))
 
-  xor_at : {s : ℕ} → NextSlot l.mask l.from s → x ≡ combine (m % 2 ^ s) member
+  xor_at : {s : ℕ} → NextBit l.end l.mask l.from s → x ≡ combine (m % 2 ^ s) member
   xor_at {s} next =
       h.xor_is
       ∙ sym (steady (λ (j : ℕ). combine (m % 2 ^ j) member) l.from s next.from
       (λ j f i e. xor_off m j member (rw h.mask_is at (next.passed j f i)) ∙ e))
 
   module _ (slots : SlotMembers member) where
-    pub naming_turn : {s y : ℕ} {l' : SlotsOf} {marks' : List ℕ} → Passed l s l' → y ≡ get_or member s 0 → marks' ≡ flip marks y
+    pub naming_turn : {s y : ℕ} {l' : BitsOf} {marks' : List ℕ} → Passed l s l' → y ≡ get_or member s 0 → marks' ≡ flip marks y
         → NamedTo a m member l' marks' (bit_xor x y) (bit_or top y)
     naming_turn {s} {y} p of t =
-        let on : bit m s ≡ 1 = rw h.mask_is at (p.slot.on p.inside) in
+        let on : bit m s ≡ 1 = rw h.mask_is at (p.next.on p.inside) in
         record {
           mask_is = p.mask_is ∙ h.mask_is;
-          marks_are = rw p.from_is (t ∙ ap₂ flip (marks_at p.slot) of ∙ sym (named_on parities member m s on));
-          xor_is = rw p.from_is (ap₂ bit_xor (xor_at p.slot) of ∙ sym (xor_on m s member on));
+          end_is = p.end_is ∙ h.end_is;
+          marks_are = rw p.from_is (t ∙ ap₂ flip (marks_at p.next) of ∙ sym (named_on parities member m s on));
+          xor_is = rw p.from_is (ap₂ bit_xor (xor_at p.next) of ∙ sym (xor_on m s member on));
           a_to = omega (arith, h.a_to, or_left top y);
-          fits = or_lt max_wires top y h.fits (member_fits slots p.inside of);
+          fits = or_lt max_wires top y h.fits (member_fits slots (rw h.end_is at p.inside) of);
           none = rw t (flip_none marks top (bit_or top y) y (or_left top y) (or_right top y) h.none);
         }
 
     -- all slots passed, and a is marked
-    pub naming_end : {l' : SlotsOf} {marks' : List ℕ} → a < parities → AllPassed l l' → marks' ≡ flip marks a
+    pub naming_end : {l' : BitsOf} {marks' : List ℕ} → a < parities → AllPassed l l' → marks' ≡ flip marks a
         → NamesSet a m member marks' (bit_xor x a) top
     naming_end a_fits p t =
         record {
-          named = set-marks m slots a_fits (marks_at p.none) t;
-          total_is = xor_whole m a slots (xor_at p.none);
+          named = set-marks m slots a_fits (rw h.end_is at (marks_at p.none)) t;
+          total_is = xor_whole m a slots (rw h.end_is at (xor_at p.none));
           fits = h.fits;
           none = rw t (flip_none marks top top a (le_refl top) h.a_to h.none);
         }
@@ -220,17 +222,18 @@ module _ {set : List ℕ} (h : Few set) (z y : ℕ) (z_fits : z < parities) (y_f
 -- ---- the search for one of a pair
 
 -- it is none of the members of those slots passed that m names
-pub record NoneTo (marks : List ℕ) (z : ℕ) (set : List ℕ) (m : ℕ) (member : List ℕ) (l : SlotsOf) : Type 0 where
+pub record NoneTo (marks : List ℕ) (z : ℕ) (set : List ℕ) (m : ℕ) (member : List ℕ) (l : BitsOf) : Type 0 where
   pub mask_is : l.mask ≡ m
+  pub end_is : l.end ≡ product_bits
   pub none : (j : ℕ) → j < l.from → bit m j ≡ 1 → PairIn marks z set (get_or member j 0) → ⊥
 
-pub none_start : (marks set : List ℕ) (z : ℕ) {m : ℕ} (member : List ℕ) {l : SlotsOf} → (l.mask ≡ m) × (l.from ≡ 0)
+pub none_start : (marks set : List ℕ) (z : ℕ) {m : ℕ} (member : List ℕ) {l : BitsOf} → (l.mask ≡ m) × (l.from ≡ 0) × (l.end ≡ product_bits)
     → NoneTo marks z set m member l
-none_start marks set z member t = record { mask_is = t.0; none = λ j l e q. omega (arith, t.1) }
+none_start marks set z member t = record { mask_is = t.0; end_is = t.2; none = λ j l e q. omega (arith, t.1) }
 
-module _ {marks set : List ℕ} {z m : ℕ} {member : List ℕ} {l : SlotsOf} (h : NoneTo marks z set m member l) where
+module _ {marks set : List ℕ} {z m : ℕ} {member : List ℕ} {l : BitsOf} (h : NoneTo marks z set m member l) where
   -- nor of those up to the next
-  none_at : {s : ℕ} → NextSlot l.mask l.from s → (j : ℕ) → j < s → bit m j ≡ 1 → PairIn marks z set (get_or member j 0) → ⊥
+  none_at : {s : ℕ} → NextBit l.end l.mask l.from s → (j : ℕ) → j < s → bit m j ≡ 1 → PairIn marks z set (get_or member j 0) → ⊥
   none_at t j i e q = go (dec_lt j l.from)
     where
       go : Dec (j < l.from) → ⊥
@@ -238,17 +241,21 @@ module _ {marks set : List ℕ} {z m : ℕ} {member : List ℕ} {l : SlotsOf} (h
       go (no g) = omega (arith, e, rw h.mask_is at (t.passed j (omega arith) i))
 
   -- the member of the next is none
-  pub none_turn : {s y : ℕ} {l' : SlotsOf} → Passed l s l' → y ≡ get_or member s 0 → (PairIn marks z set y → ⊥)
+  pub none_turn : {s y : ℕ} {l' : BitsOf} → Passed l s l' → y ≡ get_or member s 0 → (PairIn marks z set y → ⊥)
       → NoneTo marks z set m member l'
   none_turn {s} p is never =
-      record { mask_is = p.mask_is ∙ h.mask_is; none = λ j i e q. go j (omega (arith, p.from_is)) e q (ℕ_discrete j s) }
+      record {
+        mask_is = p.mask_is ∙ h.mask_is;
+        end_is = p.end_is ∙ h.end_is;
+        none = λ j i e q. go j (omega (arith, p.from_is)) e q (ℕ_discrete j s);
+      }
     where
       go : (j : ℕ) → j < s + 1 → bit m j ≡ 1 → PairIn marks z set (get_or member j 0) → Dec (j ≡ s) → ⊥
       go j i e q (yes d) = never (rw is (rw d at q))
-      go j i e q (no ne) = none_at p.slot j (omega arith) e q
+      go j i e q (no ne) = none_at p.next j (omega arith) e q
 
-  pub none_end : {l' : SlotsOf} → AllPassed l l' → (j : ℕ) → j < product_bits → bit m j ≡ 1 → PairIn marks z set (get_or member j 0) → ⊥
-  none_end p = none_at p.none
+  pub none_end : {l' : BitsOf} → AllPassed l l' → (j : ℕ) → j < product_bits → bit m j ≡ 1 → PairIn marks z set (get_or member j 0) → ⊥
+  none_end p = rw h.end_is at (none_at p.none)
 
 -- none of the slots' members, nor a: none at all
 pub no_pair : (marks : List ℕ) (z a m : ℕ) (member : List ℕ) → (PairIn marks z (set_with a m member) a → ⊥)
@@ -265,10 +272,6 @@ no_pair marks z a m member a_none none y q = go (ℕ_discrete y a)
         let f = named_from parities member m product_bits y
         (λ e. omega (arith, q.on, get_or-set_other w₀ a y ((get_or w₀ a 0 + 1) % 2) 0 ne)) in
         none f.0 f.1 f.2 (rw f.3 q)
-
--- where the partner of y is no member, y is not one of a pair
-pub no_partner : {marks set : List ℕ} {z y r p : ℕ} → r ≡ weight marks p → p ≡ bit_xor y z → r ≢ 1 → PairIn marks z set y → ⊥
-no_partner {marks} e f ne q = ne (e ∙ ap (weight marks) f ∙ q.partner)
 
 -- nor in a set that was named so
 pub pair_none : {marks set member : List ℕ} {z a m : ℕ} → SetNamed a m member set → (PairIn marks z set a → ⊥)
@@ -299,6 +302,14 @@ module _ {marks member set : List ℕ} {z a m y : ℕ} (w : SetNamed a m member 
 -- the cells so far are those of the numbers below y that are marked
 pub record ListedTo (z : ℕ) (marks : List ℕ) (y : ℕ) (cells : List ℕ) : Type 0 where
   pub is : cells ≡ as_cells max_members z (listed y (λ p. get_or marks p 0))
+
+-- the marks below `end`, cut off
+pub cut_long : {end : ℕ} {marks : List ℕ} → FewBelow end marks → length (take end marks) ≡ end
+cut_long {end} {marks} h = length-take-le end marks (omega (arith, h.inside, h.small.long))
+
+pub cut_at : {end y : ℕ} {marks : List ℕ} → FewBelow end marks → y < length (take end marks)
+    → (y < end) × (get_or (take end marks) y 0 ≡ get_or marks y 0)
+cut_at {end} {y} {marks} h l = let inside : y < end = omega (arith, l, cut_long h) in (inside, get_or-take end marks y 0 inside)
 
 pub list_none : (z : ℕ) (marks : List ℕ) → ListedTo z marks 0 (set (replicate move_cells 0) 0 z)
 unfolding listed

@@ -1,32 +1,22 @@
 -- The conditions of a legal move put together, and the form of its cells.
-use mathlib.Core.Bool.{Bool}
-use mathlib.Core.List.{List, ◌++◌}
+use mathlib.Core.List.{List}
 use mathlib.Core.Logic.{◌≢◌}
-use mathlib.Core.Path.{◌∙◌, ◌≡◌, ap, refl, sym}
+use mathlib.Core.Path.{◌∙◌, ◌≡◌, refl, sym}
 use Prim.Native.Nat.{◌+◌, ◌-◌, ◌<◌, ◌^◌, ◌≤◌, ℕ}
 use native.Mathlib.Decide.{dec_lt}
 use native.Mathlib.Omega.{arith}
 use lib.Bits.{xor_lt}
-use lib.ListN.{get_or-eq_default, drop, get_or, length, length-drop, replicate, take}
+use lib.ListN.{get_or-eq_default, drop, get_or, length, length-drop, take}
 use lib.Seq.{get_or-drop, length-take-le}
 use Rattle.std.proofs.lemmas.List.{get_or-take}
 use Rattle.circuit.specs.Limits.{max_members, max_wires, move_head, parities, table_bytes}
 use Rattle.circuit.specs.OddSet.{Member}
-use Rattle.circuit.specs.Sound.{weight}
-use Rattle.gf2.proofs.Over.{sum_over-append, sum_over-none}
-use Rattle.gf2.proofs.Sum.{delta-other}
-use Rattle.gf2.proofs.Table.{get_or-zeros}
 use Rattle.gf2.proofs.Pairing.{xor_equal}
 use Rattle.gf2.specs.Over.{Below}
-use Rattle.gf2.specs.Sum.{delta}
-use Rattle.moves.proofs.Logs.{cells_checked, said_cells}
-use Rattle.moves.proofs.Sets.{in_occ, occ, occ-in}
-use Rattle.moves.specs.Log.{LegalCells, MoveForm, as_cells, set_of, z_of}
+use Rattle.moves.proofs.Logs.{cells_checked}
+use Rattle.moves.specs.Log.{LegalCells, MoveForm, set_of, z_of}
 use Rattle.moves.specs.Move.{Legal, Separates}
-use Rattle.moves.specs.Sets.{In}
-use Rattle.gf2.proofs.Answers.{decides_as}
-use Rattle.gf2.specs.Tests.{Decides}
-use Rattle.legality.specs.Tested.{AllMembers, IsZero, MemberSet, Outside, SaysLegal, SaysMove}
+use Rattle.legality.specs.Tested.{AllMembers, IsZero, MemberSet, SaysLegal, SaysMove}
 
 -- a number beyond the marks is no member
 pub member_inside : (marks : List ℕ) (p : ℕ) → Member marks p → p < length marks
@@ -125,35 +115,3 @@ module _ {most : ℕ} {cells head rest Y left : List ℕ} (cut : Cut most cells 
   pub cut_few : length Y ≤ most
   cut_few =
       rw (cut.set_is, length-take-le (get_or head 1 0) rest (rw (cut.rest_is, length-drop) (omega (arith, cut.few, cut.long)))) cut.few
-
-  -- Y and the zeros after it are all after the head
-  pub cut_padded : IsZero left → rest ≡ Y ++ replicate (most - length Y) 0
-  unfolding as_cells
-  cut_padded zero =
-      cut.rest_is ∙ ap (drop move_head) (said_cells most cells (cut_form zero))
-      ∙ ap (λ (y : List ℕ). y ++ replicate (most - length y) 0) (sym cut_set)
-
--- ---- Y and the zeros after it
-
--- no member is 0, so that none is among the zeros
-pub outside_padded : (k : ℕ) (marks Y padded : List ℕ) (b : ℕ) {r : Bool} → weight marks 0 ≡ 0 → padded ≡ Y ++ replicate k 0
-    → Decides r (Outside marks padded b) → Decides r (Outside marks Y b)
-outside_padded k marks Y padded b none p =
-    decides_as (λ o. (o.0, λ h. o.1 (longer h))) (λ o. (o.0, λ h. o.1 (shorter o.0 h)))
-  where
-    counted : occ b padded ≡ occ b Y + occ b (replicate k 0)
-    counted = ap (occ b) p ∙ sum_over-append (delta b) Y (replicate k 0)
-
-    longer : In b Y → In b padded
-    longer h = occ-in b padded (omega (arith, counted, in_occ b Y h))
-
-    no_zeros : Member marks b → occ b (replicate k 0) ≡ 0
-    no_zeros m =
-        sum_over-none (delta b) (replicate k 0)
-        (λ i l. delta-other b (get_or (replicate k 0) i 0) (λ e. zero_no (sym (get_or-zeros k i) ∙ e) m))
-      where
-        zero_no : 0 ≡ b → Member marks b → ⊥
-        zero_no z h = omega (arith, none, rw (← z) at h)
-
-    shorter : Member marks b → In b padded → In b Y
-    shorter m h = occ-in b Y (omega (arith, counted, no_zeros m, in_occ b padded h))

@@ -1,48 +1,37 @@
--- What a loop over the numbers of a list has decided where it stops, and when it ends.
+-- What tests of the numbers of a list decide.
 use mathlib.Core.Bool.{Bool, ◌||◌, false, true}
 use mathlib.Core.List.{List, [], ◌∷◌}
-use mathlib.Core.Path.{◌≡◌, refl}
+use mathlib.Core.Path.{◌∙◌, ◌≡◌, ap, refl, sym}
 use Prim.Native.Nat.{◌<◌, suc, zero, ℕ}
 use native.Mathlib.Omega.{arith}
-use lib.Bits.{and_le_l, and_le_r, bit_or, bit_xor, or_add_and}
+use lib.Bits.{bit_xor}
 use lib.Dec.{eqb}
-use lib.ListN.{length}
+use lib.ListN.{get_or, length, length-replicate, replicate}
+use Rattle.std.proofs.lemmas.List.{ext_get_or}
+use Rattle.gf2.proofs.Table.{get_or-zeros}
 use borrow.Author.Tests.{eqb-false, eqb-true}
-use Rattle.gf2.proofs.Answers.{answer_no, answer_yes, decides_as, decides_equal}
+use Rattle.gf2.proofs.Answers.{answer_no, answer_yes, decides_as, never}
 use Rattle.moves.proofs.Deciding.{separates_at}
-use Rattle.std.specs.Bool.{MatchBool}
-use Rattle.std.specs.List.{AllWithin, HoldsAt, fold, list_any}
+use Rattle.std.specs.Bool.{Decides as Equal, MatchBool}
+use Rattle.std.specs.List.{AllWithin, HoldsAt, list_any}
 use Rattle.moves.specs.Move.{Separates}
 use Rattle.moves.specs.Sets.{In}
 use Rattle.gf2.specs.Tests.{Decides}
 use Rattle.legality.specs.Tested.{IsZero, Outside}
 
--- ---- cells that are all 0, by one number
+-- ---- cells that are all 0
 
-module _ (a b : ℕ) where
-  or_zero : bit_or a b ≡ 0 → (a ≡ 0) × (b ≡ 0)
-  or_zero z = let s = or_add_and a b in (omega (arith, s, and_le_r a b), omega (arith, s, and_le_l a b))
-
-  zero_or : a ≡ 0 → b ≡ 0 → bit_or a b ≡ 0
-  zero_or h k = omega (arith, or_add_and a b)
-
-or_none : (a : ℕ) (cells : List ℕ) → fold bit_or a cells ≡ 0 → (a ≡ 0) × IsZero cells
-or_none a [] e = (e, λ i l. absurd (omega arith))
-or_none a (x ∷ cells) e =
-    let rest = or_none (bit_or a x) cells e in
-    let here = or_zero a x rest.0 in
-    (here.0, at here.1 rest.1)
+-- as many zeros are equal to them
+pub zero_by_equal : (cells zeros : List ℕ) {r : Bool} → zeros ≡ replicate (length cells) 0 → Equal r (cells ≡ zeros)
+    → Decides r (IsZero cells)
+zero_by_equal cells zeros z equal = (
+  λ e i l. ap (λ (t : List ℕ). get_or t i 0) (equal.0 e) ∙ at i,
+  λ e h. never
+      (sym e ∙ equal.1 (ext_get_or 0 cells zeros (sym (ap length z ∙ length-replicate (length cells) 0)) (λ i l. h i l ∙ sym (at i)))),
+)
   where
-    at : x ≡ 0 → IsZero cells → IsZero (x ∷ cells)
-    at h k zero l = h
-    at h k (suc i) l = k i (omega arith)
-
-none_or : (a : ℕ) (cells : List ℕ) → a ≡ 0 → IsZero cells → fold bit_or a cells ≡ 0
-none_or a [] e h = e
-none_or a (x ∷ cells) e h = none_or (bit_or a x) cells (zero_or a x e (h 0 (omega arith))) (λ i l. h (suc i) (omega arith))
-
-pub zero_by_or : (cells : List ℕ) → Decides (eqb (fold bit_or 0 cells) 0) (IsZero cells)
-zero_by_or cells = decides_as (λ e. (or_none 0 cells e).1) (none_or 0 cells refl) (decides_equal (fold bit_or 0 cells) 0)
+    at : (i : ℕ) → get_or zeros i 0 ≡ 0
+    at i = rw z (get_or-zeros (length cells) i)
 
 -- ---- a number looked for among all of a list
 

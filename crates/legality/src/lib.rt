@@ -3,7 +3,7 @@
 // for users.
 #![tactic(auto)]
 
-ghost use Rattle.std.specs.Prelude.{◌≢◌, ◌≡◌, ◌-◌, ◌++◌, ◌<◌, ◌≤◌, MatchOption, length, replicate};
+ghost use Rattle.std.specs.Prelude.{◌≢◌, ◌≡◌, ◌<◌, ◌≤◌, MatchOption, length};
 ghost use Rattle.circuit.specs.Limits.{max_members, max_wires, parities};
 ghost use Rattle.circuit.specs.OddSet.{Member};
 ghost use Rattle.circuit.specs.Sound.{weight};
@@ -20,17 +20,15 @@ use circuit::limits::{
 use circuit::parity::lowest;
 use moves::partner::bar;
 
-// A move as its cells say it: z, the set Y, and Y with the zeros after it, as many numbers in every move.
+// A move as its cells say it: z and the set Y.
 #[derive(Clone, Copy, Debug)]
 pub struct Move<'a> {
     pub z: Parity,
     pub ys: &'a [Parity],
-    padded: &'a [Parity; MAX_MEMBERS],
     ghost few: { length ys.now ≤ max_members },
-    ghost zeros: { padded.now ≡ ys.now ++ replicate (max_members - length ys.now) 0 },
 }
 
-// The marks of an odd set. Parity 0 is no member, so that it may stand before the first of Y and after the last.
+// The marks of an odd set. Parity 0 is no member, so that it may stand before the first of Y.
 #[derive(Clone, Copy)]
 struct OddSet<'a> {
     marks: &'a [Mark; TABLE_BYTES],
@@ -68,7 +66,7 @@ impl<'a> Move<'a> {
         if !is_zero(zeros) {
             return None;
         }
-        Some(Move { z, ys, padded })
+        Some(Move { z, ys })
     }
 
     fn is_legal(&self, marks: &[Mark; TABLE_BYTES]) -> bool
@@ -100,12 +98,12 @@ impl<'a> Move<'a> {
         self.ys.iter().any(|&y| self.leaves(odd, y ^ self.z))
     }
 
-    // b is a member that is not in Y. No number of Y, and no zero after it, is tested by itself: `contains` looks at many together.
+    // b is a member that is not in Y. No number of Y is tested by itself: `contains` looks at many together.
     fn leaves(&self, odd: &OddSet, b: Parity) -> bool
         ensures { Decides result (Outside odd.now.marks.now self.now.ys.now b) }
     {
-        let padded = self.padded;
-        odd.has(b) && !padded.contains(&b)
+        let ys = self.ys;
+        odd.has(b) && !ys.contains(&b)
     }
 
     // The xor of Y is 0, and so is that of the pairs of wires of its bars, for the lowest wire of z: these stand for every triple of wires.
@@ -137,11 +135,13 @@ impl OddSet<'_> {
     }
 }
 
-// Whether all cells are 0. None is tested by itself, so that many are looked at together.
+// Whether all cells are 0. None is tested by itself: `==` looks at many together.
 fn is_zero(cells: &[MoveCell]) -> bool
+    requires { length cells.now ≤ max_members }
     ensures { Decides result (IsZero cells.now) }
 {
-    cells.iter().fold(0, |any, &cell| any | cell) == 0
+    let zeros = [0; MAX_MEMBERS];
+    cells == &zeros[..cells.len()]
 }
 
 // A number times this is copies of it, one place further apart than it has bits.

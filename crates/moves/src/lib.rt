@@ -7,11 +7,12 @@
 pub mod marks;
 pub mod partner;
 
-// Whether a search has found a legal move.
+// Whether a search has found a legal move. It is no Option<Move>, since C lends the cells that hold the move. Nor is it a bool, of which
+// neither value says by itself what was found.
 #[derive(Clone, Copy, Debug, PartialEq, Eq)]
 pub enum Sought {
     // It has: the cells lent hold the move.
     Found,
-    // Nothing was found, and the cells are as they were; each function says what that means.
+    // None is legal, and the cells are as they were.
     Nothing,
 }

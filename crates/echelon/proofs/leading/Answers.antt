@@ -1,13 +1,14 @@
--- By the count of zeros above it.
+-- The logarithm of a number is the place of its leading bit.
 use native.Mathlib.Omega.{arith}
-use Rattle.echelon.proofs.Slots.{leading_bit, zeros_lt}
+use Rattle.circuit.specs.Limits.{product_bits}
+use Rattle.echelon.proofs.Slots.{leads_below}
 use Rattle.echelon.proofs.leading.Goals as goal
 
-pub overflow_cast-result : goal.overflow_cast-result
-overflow_cast-result c = record { fits = omega (arith, zeros_lt 63 c.args.x c.requires.0 (omega arith)) }
-
-pub overflow_sub-result : goal.overflow_sub-result
-overflow_sub-result c = zeros_lt 63 c.args.x c.requires.0 (omega arith)
-
 pub returns : goal.returns
-returns c = leading_bit 63 c.args.x c.requires.0 (omega arith) c.requires.1
+returns c =
+    let log = c.ilog2.ensures in
+    record {
+      slot = leads_below product_bits c.args.x c.ilog2.result c.requires.1 log.power_le;
+      lo = log.power_le;
+      hi = omega (arith, log.next_power_gt);
+    }

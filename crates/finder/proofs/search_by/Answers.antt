@@ -1,7 +1,5 @@
 -- The members of the marks are gathered, and what the scan says of all wires holds of n.
-use native.Mathlib.Omega.{arith}
 use Rattle.std.proofs.lemmas.Grind.{merely}
-use Rattle.circuit.proofs.Steps.{shifted}
 use Rattle.finder.proofs.Listing.{gathered_members}
 use Rattle.finder.proofs.OnWires.{scanned_searched}
 use Rattle.finder.proofs.search_by.Goals as goal
@@ -9,7 +7,7 @@ use Rattle.finder.proofs.search_by.Goals as goal
 pub invariant_of-search : goal.invariant_of-search
 invariant_of-search c =
     let m = c.requires in
-    let gathered = rw (shifted 64 c.args.n (omega arith)) at c.gather.ensures in
+    let gathered = rw c.parities.ensures.0 at c.gather.ensures in
     record { listed = merely (gathered_members m.few m.sound gathered) }
 
 pub returns : goal.returns

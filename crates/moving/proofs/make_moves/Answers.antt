@@ -14,7 +14,7 @@ use Rattle.moving.proofs.make_moves.Goals as goal
 
 pub loop-cells-init : goal.loop-cells-init
 loop-cells-init c =
-    record { first = c.requires.0; room = c.requires.1; made = made_none c.args.n c.args.marks.now c.args.log.now 0 refl }
+    record { first = c.requires.0; room = c.requires.1; made = made_none c.args.wires.count c.args.marks.now c.args.log.now 0 refl }
 
 pub search_by-requires : goal.search_by-requires
 search_by-requires c = still_marked c.loop-cells.invariant

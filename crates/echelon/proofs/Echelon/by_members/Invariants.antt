@@ -3,4 +3,4 @@ use Rattle.echelon.proofs.Slots.{MaskTo}
 use Rattle.echelon.proofs.Echelon.by_members.Given as goal
 
 abbrev pub invariant-loop-s : goal.invariant-loop-s
-invariant-loop-s l = MaskTo l.self.by l.used l.slots.mask l.slots.from
+invariant-loop-s l = MaskTo l.self.by l.used l.slots

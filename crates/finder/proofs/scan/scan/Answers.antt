@@ -1,7 +1,6 @@
 -- No z passed so far has a legal move; and of this z, the columns asked so far are in the slots.
 use mathlib.Core.Path.{◌≡◌, refl}
 use native.Mathlib.Omega.{arith}
-use Rattle.circuit.proofs.Steps.{shifted}
 use Rattle.circuit.specs.Limits.{max_members, max_wires}
 use Rattle.columns.proofs.Apart.{half_kept}
 use Rattle.columns.proofs.InTurn.{members_had}
@@ -29,7 +28,7 @@ pub returns-in-Some-offer : goal.returns-in-Some-offer
 returns-in-Some-offer c =
     let l = c.new-one.ensures.1 in
     let one = c.new-one.result in
-    offered_smallest (members_had c.args.search.now.listed) c.loop-i.invariant.0 c.in-Some.ensures c.column-v.ensures.0 one.in_range.0
+    offered_smallest (members_had c.args.search.now.listed) c.loop-i.invariant.0 c.in-Some.ensures c.column-v.ensures one.in_range.0
     one.in_range.1 (bit-top _ _ l.lo l.hi) (rw c.new-one.ensures.0 c.search.invariant.0.none) c.in-Some-offer.ensures
 
 pub loop-i-preserved : goal.loop-i-preserved
@@ -38,7 +37,7 @@ loop-i-preserved c =
     elim c.match-turn.branch [
       | in-Some+in_default-offer w ↦
           rw w.columns-is
-          (asked_next m c.loop-i.invariant.0 w.in-Some.ensures w.column-v.ensures.0 w.in_default-offer.ensures, c.loop-i.invariant.1)
+          (asked_next m c.loop-i.invariant.0 w.in-Some.ensures w.column-v.ensures w.in_default-offer.ensures, c.loop-i.invariant.1)
       | in_default w ↦ rw w.columns-is (asked_skip m c.loop-i.invariant.0 c.turn.ensures w.in_default.is, c.loop-i.invariant.1)
     ]
 
@@ -59,4 +58,4 @@ search-preserved c =
 
 pub returns-after-search : goal.returns-after-search
 returns-after-search c =
-    rw c.search.invariant.1 (λ z Y l. omega (arith, shifted 64 c.args.n (omega arith), c.search.invariant.0.none z Y l))
+    rw c.search.invariant.1 (λ z Y l. omega (arith, c.parities-k-end.ensures.0, c.search.invariant.0.none z Y l))

@@ -1,7 +1,7 @@
 -- The cells, cut into the two of the head, Y and what is left.
 use borrow.Author.Rules.{rules}
 use Rattle.circuit.specs.Limits.{max_members}
-use Rattle.legality.proofs.Conditions.{Cut, cut_few, cut_form, cut_padded, cut_set, cut_z, cut_zero}
+use Rattle.legality.proofs.Conditions.{Cut, cut_few, cut_form, cut_set, cut_z, cut_zero}
 use Rattle.legality.proofs.Move.read.Goals as goal
 
 pub returns-then-not-is_zero : goal.returns-then-not-is_zero
@@ -16,7 +16,7 @@ invariant_of-result c =
     let z = c.in_ok-z in
     let ys = c.in_ok-ys in
     let cut : Cut max_members c.args.cells.now z.field-0-0.now c.in_ok-padded.padded.now ys.ys.now ys.zeros.now = search rules in
-    record { few = cut_few cut; zeros = cut_padded cut (c.is_zero.ensures.0 c.if-not-is_zero.false) }
+    record { few = cut_few cut }
 
 pub returns : goal.returns
 returns c =

@@ -1,14 +1,13 @@
 -- What is left of v is below 2 ^ product_bits, and the slots taken off it make up the difference; what is left falls at each turn.
 use mathlib.Core.Path.{◌≡◌}
 use native.Mathlib.Omega.{arith}
-use borrow.Author.Rules.{rules}
 use Rattle.gf2.proofs.Echelon.{reached_start}
 use Rattle.gf2.specs.Echelon.{held}
 use Rattle.echelon.proofs.Masks.{machine_takes, masked_falls, off, stopped}
 use Rattle.echelon.proofs.basis.Slots.reduce.Goals as goal
 
 pub loop-left-init : goal.loop-left-init
-loop-left-init c = (search rules, reached_start (held c.args.self.now.filled c.args.self.now.vec) c.args.v)
+loop-left-init c = (c.args.v.narrow, reached_start (held c.args.self.now.filled c.args.self.now.vec) c.args.v.bits)
 
 pub overflow_shl-used : goal.overflow_shl-used
 overflow_shl-used c = omega (arith, c.leading-slot.ensures.slot)

@@ -5,7 +5,7 @@ use Rattle.gf2.specs.Echelon.{Reached, held}
 use Rattle.echelon.proofs.basis.Slots.reduce.Given as goal
 
 abbrev pub invariant-loop-left : goal.invariant-loop-left
-invariant-loop-left l = (l.left < 2 ^ product_bits) × Reached (held l.self.filled l.self.vec) l.v l.left l.used
+invariant-loop-left l = (l.left < 2 ^ product_bits) × Reached (held l.self.filled l.self.vec) l.fn.v.bits l.left l.used
 
 abbrev pub decreases-loop-left : goal.decreases-loop-left
 decreases-loop-left l = l.left

@@ -6,7 +6,7 @@ use Rattle.kernel.proofs.naming.Dependency.pair_at.Goals as goal
 pub loop-s-init : goal.loop-s-init
 loop-s-init c =
     rw c.into_iter-s-iterator.ensures.into_iter_gives
-    (none_start c.args.marks.now c.args.set.now c.args.z c.args.self.now.columns.now.member c.new-s-items.ensures)
+    (none_start c.args.partners.now.marks.now c.args.set.now c.args.partners.now.z c.args.self.now.columns.now.member c.new-s-items.ensures)
 
 pub loop-s-preserved : goal.loop-s-preserved
 loop-s-preserved c =
@@ -14,4 +14,4 @@ loop-s-preserved c =
 
 pub returns : goal.returns
 returns c =
-    pair_none c.requires.named (c.is_pair.ensures.1 c.if-is_pair.false) (none_end c.loop-s.invariant c.in-None.ensures.steps)
+    pair_none c.requires (c.is_pair.ensures.1 c.if-is_pair.false) (none_end c.loop-s.invariant c.in-None.ensures.steps)
