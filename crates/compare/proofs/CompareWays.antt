@@ -26,7 +26,6 @@ use Rattle.phase.proofs.Laws.{acts_alike_exactly}
 use Rattle.phase.specs.Coefficients.{SaysSame}
 use Rattle.reader.specs.Entry.{ReadAll, reading_of}
 use Rattle.reader.specs.declared.reading.ListRead.{ListRead}
-use Rattle.compare.specs.Deciding.{BothFormed}
 use Rattle.compare.specs.Entry.{ComparesLists, and_then, as_second, compare_reply}
 use Rattle.compare.specs.declared.Compared.TheVariants.{Differ}
 
@@ -82,21 +81,16 @@ pub read_is_sound : {n : ℕ} {bytes : List ℕ} {t : ListRead} → n ≤ max_wi
 read_is_sound {n} {bytes} few formed r = rw r.reads (reading_is_sound max_wires n few (gates_of bytes) formed)
 
 -- what is decided of the readings is decided of the lists
-pub alike_by_reading : {n : ℕ} {first second : List ℕ} {a b : ListRead} {r : Bool} → BothFormed n first second
-    → ReadAll n first a → ReadAll n second b → Decides r (SaysSame n (reading_of b) (reading_of a))
+pub alike_by_reading : {n : ℕ} {first second : List ℕ} {a b : ListRead} {r : Bool} → n ≤ max_wires → AllWellFormed n (gates_of first)
+    → AllWellFormed n (gates_of second) → ReadAll n first a → ReadAll n second b → Decides r (SaysSame n (reading_of b) (reading_of a))
     → Decides r (SameAction n (gates_of first) (gates_of second))
-alike_by_reading {n} {first} {second} both f s d =
-    let e = acts_alike_exactly max_wires n both.few (gates_of first) (gates_of second) both.formed_first both.formed_second in
+alike_by_reading {n} {first} {second} few formed_first formed_second f s d =
+    let e = acts_alike_exactly max_wires n few (gates_of first) (gates_of second) formed_first formed_second in
     decides_as e.1 e.0 (rw (s.reads, f.reads) at d)
 
 -- ---- the ways out
 
 module _ {n : ℕ} {first second : List ℕ} (clear : compare_reply n first second ≡ replies.Done) where
-  pub may_compare : BothFormed n first second
-  may_compare =
-      let t = both_accepted n first second clear in
-      record { few = t.0.few; formed_first = t.0.formed; formed_second = t.1.formed }
-
   pub compare_differ : (SameAction n (gates_of first) (gates_of second) → ⊥) → ComparesLists n first second (Ok Differ)
   compare_differ not =
       record {

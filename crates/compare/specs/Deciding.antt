@@ -1,16 +1,7 @@
--- How the code decides: what it takes, and when the superset sums of the one table of weights less the other tell nothing.
-use Rattle.std.specs.Prelude.{List, ◌≡◌, ◌%◌, ◌<◌, suc, zero, ℕ, ◌≤◌, length}
+-- How the code decides: when the superset sums of the one table of weights less the other tell nothing.
+use Rattle.std.specs.Prelude.{List, ◌≡◌, ◌%◌, ◌<◌, suc, zero, ℕ, length}
 use Rattle.std.specs.Int.Count.{ones}
-use Rattle.circuit.specs.Faults.{AllWellFormed}
-use Rattle.circuit.specs.Gate.{gates_of}
-use Rattle.circuit.specs.Limits.{max_wires}
 use Rattle.circuit.specs.Sound.{weight}
-
--- two lists without a fault
-pub record BothFormed (n : ℕ) (first second : List ℕ) : Type 0 where
-  pub few : n ≤ max_wires
-  pub formed_first : AllWellFormed n (gates_of first)
-  pub formed_second : AllWellFormed n (gates_of second)
 
 -- by the number of wires: l is taken modulo 8, q modulo 4 and c modulo 2; there is no coefficient of no wire, nor of more than three
 abbrev pub modulus : ℕ → ℕ

@@ -8,42 +8,42 @@ ghost use Rattle.circuit.specs.Sound.{SoundReading, SoundWeights};
 ghost use Rattle.gf2.specs.Tests.{Decides};
 ghost use Rattle.phase.specs.Coefficients.{SameCoefficients, SaysSame};
 ghost use Rattle.reader.specs.Entry.{reading_of};
-ghost use Rattle.compare.specs.Deciding.{BothFormed, NoneTells};
+ghost use Rattle.compare.specs.Deciding.{NoneTells};
 ghost use Rattle.compare.specs.Deciding.{modulus as modulusOf};
 
 use circuit::limits::{Parity, TABLE_BYTES, Weight};
 use circuit::parity::wires_of;
+use circuit::wires::Wires;
+use judges::faults::FormedList;
 use reader::reading::{ListRead, read_gates};
-use sums::put_difference_sums;
+use sums::difference_sums;
 
-// The caller has found no fault in either list. What the second says is held against what the first says, as acting alike is defined.
-pub fn act_alike(n: usize, first: &[u8], second: &[u8]) -> bool
-    requires { BothFormed n first.now second.now }
-    ensures { Decides result (SameAction n (gates_of first.now) (gates_of second.now)) }
+// Of two lists on the same wires. What the second says is held against what the first says, as acting alike is defined.
+pub fn act_alike(first: &FormedList<'_>, second: &FormedList<'_>) -> bool
+    requires { second.now.wires.count ≡ first.now.wires.count }
+    ensures { Decides result (SameAction first.now.wires.count (gates_of first.now.gates.now) (gates_of second.now.gates.now)) }
 {
-    let one = read_gates(n, first);
-    let other = read_gates(n, second);
-    say_same(n, &other, &one)
+    let one = read_gates(first);
+    let other = read_gates(second);
+    say_same(first.wires, &other, &one)
 }
 
 // The rows come first: where they differ, the weights need not be summed.
-fn say_same(n: usize, a: &ListRead, b: &ListRead) -> bool
-    requires { (n ≤ max_wires) × SoundReading max_wires n (reading_of a.now) × SoundReading max_wires n (reading_of b.now) }
-    ensures { Decides result (SaysSame n (reading_of a.now) (reading_of b.now)) }
+fn say_same(wires: Wires, a: &ListRead, b: &ListRead) -> bool
+    requires { SoundReading max_wires wires.count (reading_of a.now) × SoundReading max_wires wires.count (reading_of b.now) }
+    ensures { Decides result (SaysSame wires.count (reading_of a.now) (reading_of b.now)) }
 {
-    a.rows == b.rows && same_coefficients(n, &a.weights, &b.weights)
+    a.rows == b.rows && same_coefficients(wires, &a.weights, &b.weights)
 }
 
 // The sums are made for all wires, pairs and triples at once. Sound weights are 0 from 2^n up, so that they go over the parities of n
 // wires alone.
-fn same_coefficients(n: usize, w: &[Weight; TABLE_BYTES], v: &[Weight; TABLE_BYTES]) -> bool
-    requires { (n ≤ max_wires) × SoundWeights parities n w.now × SoundWeights parities n v.now }
-    ensures { Decides result (SameCoefficients n w.now v.now) }
+fn same_coefficients(wires: Wires, w: &[Weight; TABLE_BYTES], v: &[Weight; TABLE_BYTES]) -> bool
+    requires { SoundWeights parities wires.count w.now × SoundWeights parities wires.count v.now }
+    ensures { Decides result (SameCoefficients wires.count w.now v.now) }
 {
-    let mut table = [0; TABLE_BYTES];
-    let sums = &mut table[..1 << n];
-    put_difference_sums(n, w, v, sums);
-    none_tells(sums)
+    let mut room = [0; TABLE_BYTES];
+    none_tells(difference_sums(wires, w, v, &mut room))
 }
 
 // Whether no sum tells the weights apart: at one wire that of l, at two that of q, at three that of c.

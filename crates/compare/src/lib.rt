@@ -4,7 +4,7 @@
 // means.
 #![tactic(auto)]
 
-ghost use Rattle.std.specs.Prelude.{◌≡◌};
+ghost use Rattle.std.specs.Prelude.{◌≡◌, IfOk};
 ghost use Rattle.circuit.specs.Told.{told};
 ghost use Rattle.compare.specs.Entry.{ComparesLists, compare_reply};
 
@@ -12,8 +12,9 @@ pub mod deciding;
 
 use circuit::faults::{Fault, Refusal};
 use deciding::act_alike;
-use judges::faults::check_list;
+use judges::faults::{FormedList, check_list};
 
+// What two lists compared are. It is no bool, of which neither value says by itself what was found.
 #[derive(Clone, Copy, Debug, PartialEq, Eq)]
 pub enum Compared {
     // Both lists act alike.
@@ -26,22 +27,30 @@ pub enum Compared {
 pub fn compare(n: usize, first: &[u8], second: &[u8]) -> Result<Compared, Refusal>
     ensures { ComparesLists n first.now second.now result }
 {
-    check_lists(n, first, second)?;
-    if act_alike(n, first, second) {
+    let (first, second) = check_both(n, first, second)?;
+    if act_alike(&first, &second) {
         return Ok(Compared::Same);
     }
     Ok(Compared::Differ)
 }
 
 // The faults of the first list, with the wire count; then those of the second.
-fn check_lists(n: usize, first: &[u8], second: &[u8]) -> Result<(), Refusal>
-    ensures { told result ≡ compare_reply n first.now second.now }
+fn check_both<'a>(
+    n: usize,
+    first: &'a [u8],
+    second: &'a [u8],
+) -> Result<(FormedList<'a>, FormedList<'a>), Refusal>
+    ensures reply { told result ≡ compare_reply n first.now second.now }
+    ensures wires { IfOk result (λ both. (both.0.wires.count ≡ n) × (both.1.wires.count ≡ n)) }
+    ensures same { IfOk result (λ both. (both.0.gates.now ≡ first.now) × (both.1.gates.now ≡ second.now)) }
 {
-    check_list(n, first, Ok(()))?;
-    check_list(n, second, Ok(())).map_err(as_second)
+    let first = check_list(n, first, Ok(()))?;
+    let second = check_list(n, second, Ok(())).map_err(as_second)?;
+    Ok((first, second))
 }
 
-// Whichever fault the second list has, it is told by one number, with its own place.
+// Whichever fault the second list has, it is told by one number, with its own place. It goes from a refusal to a refusal, so that no `From`
+// can say it.
 fn as_second(found: Refusal) -> Refusal
     ensures fault { result.fault ≡ Fault.SecondList }
     ensures place { result.place ≡ found.place }

@@ -1,6 +1,6 @@
 -- The entry `read`: its reply and what it leaves in the lent buffers, for sound and faulty arguments alike.
 use Rattle.std.specs.Prelude.{List, ◌≡◌, ◌<◌, ℕ, get_or, length}
-use Rattle.circuit.specs.Faults.{Accepted, lent_fault, list_reply, or_else}
+use Rattle.circuit.specs.Faults.{lent_fault, list_reply, or_else}
 use Rattle.circuit.specs.Gate.{gates_of, t_gates}
 use Rattle.circuit.specs.Lent.{read_bytes, reading_lent, rows_lent, weights_lent}
 use Rattle.circuit.specs.Limits.{parities, row_cells, table_bytes}
@@ -27,12 +27,6 @@ read_lent weights rows = or_else (lent_fault weights table_bytes) (lent_fault ro
 -- the reply, from what goes in alone: 1, 2, 8, then 3, 4, 5 by gate
 abbrev pub read_reply : ℕ → List ℕ → ℕ → ℕ → Reply
 read_reply n bytes weights rows = list_reply n bytes (read_lent weights rows)
-
--- a list without a fault, and weights and rows lent for it
-pub record ReadInto (n : ℕ) (bytes weights rows : List ℕ) : Type 0 where
-  pub accepted : Accepted n bytes
-  pub weights_fit : length weights ≡ table_bytes
-  pub rows_fit : length rows ≡ row_cells
 
 -- weights to which phase v can be added at parity p, which is its place
 pub record Addable (weights : List ℕ) (p v : ℕ) : Type 0 where

@@ -2,15 +2,16 @@
 // Public entry: `read`. Its promise is the record ReadList of specs/Entry; proofs/Laws says what the promise means.
 #![tactic(auto)]
 
-ghost use Rattle.std.specs.Prelude.{◌≡◌};
+ghost use Rattle.std.specs.Prelude.{◌≡◌, length};
+ghost use Rattle.circuit.specs.Limits.{row_cells, table_bytes};
 ghost use Rattle.circuit.specs.Told.{fault_told, told};
-ghost use Rattle.reader.specs.Entry.{ReadInto, ReadList, ReadOut, read_lent};
+ghost use Rattle.reader.specs.Entry.{ReadList, ReadOut, read_lent};
 
 pub mod reading;
 
 use circuit::faults::{Fault, Refusal};
 use circuit::limits::{Parity, ROW_CELLS, TABLE_BYTES, Weight};
-use judges::faults::{check_lent, check_list};
+use judges::faults::{FormedList, check_lent, check_list};
 use reading::read_gates;
 
 // Reads a list of gates into weights and rows. A refusal leaves both as they were.
@@ -22,8 +23,8 @@ pub fn read(
 ) -> Result<(), Refusal>
     ensures { ReadList n gates.now weights.old rows.old weights.new rows.new (told result) }
 {
-    check_list(n, gates, check_read_lent(weights.len(), rows.len()))?;
-    put_reading(n, gates, weights, rows);
+    let list = check_list(n, gates, check_read_lent(weights.len(), rows.len()))?;
+    put_reading(&list, weights, rows);
     Ok(())
 }
 
@@ -36,11 +37,11 @@ fn check_read_lent(weights: usize, rows: usize) -> Result<(), Fault>
 }
 
 // The weights and rows of an accepted list, into what is lent for them.
-fn put_reading(n: usize, gates: &[u8], weights: &mut [Weight], rows: &mut [Parity])
-    requires { ReadInto n gates.now weights.old rows.old }
-    ensures { ReadOut n gates.now weights.new rows.new }
+fn put_reading(list: &FormedList<'_>, weights: &mut [Weight], rows: &mut [Parity])
+    requires { (length weights.old ≡ table_bytes) × (length rows.old ≡ row_cells) }
+    ensures { ReadOut list.now.wires.count list.now.gates.now weights.new rows.new }
 {
-    let read = read_gates(n, gates);
+    let read = read_gates(list);
     weights.copy_from_slice(&read.weights);
     rows.copy_from_slice(&read.rows);
 }

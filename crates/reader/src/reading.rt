@@ -1,17 +1,18 @@
 // Reading gates that have no fault into weights and rows (document 01, "Weights and rows"), their T and T dagger gates counted on the way.
-ghost use Rattle.std.specs.Prelude.{◌≡◌, ◌<◌, ◌≤◌};
+ghost use Rattle.std.specs.Prelude.{◌≡◌, ◌<◌};
 ghost use Rattle.circuit.specs.Limits.{max_wires};
-ghost use Rattle.circuit.specs.Gate.{gates_of};
 ghost use Rattle.gf2.specs.Table.{add_at};
 ghost use Rattle.circuit.specs.Read.{first_row, first_rows, join_rows};
-ghost use Rattle.circuit.specs.Faults.{AllWellFormed};
 ghost use Rattle.reader.specs.Entry.{Addable, ReadAll};
 
 use circuit::gates::{GateKind, gates};
 use circuit::limits::{MAX_WIRES, Parity, TABLE_BYTES, Weight};
 use circuit::parity::unit;
+use judges::faults::FormedList;
 
-// The weights, the rows and the number of T and T dagger gates of a list, as the code keeps them.
+// The weights, the rows and the number of T and T dagger gates of a list, as the code keeps them. That the weights and rows are sound
+// stands in clauses: a ghost field would serve `compare` alone, for the trim takes the arrays apart, and lends them to functions that take
+// arrays lent by C too.
 #[derive(Drop)]
 pub struct ListRead {
     pub weights: [Weight; TABLE_BYTES],
@@ -20,16 +21,15 @@ pub struct ListRead {
 }
 
 // The weights and rows of a list, and the number of its T and T dagger gates, which are those that add an odd phase. Each gate changes
-// these in place. Internal: the caller has found no fault. So what adds no phase is a CNOT: with a third way, for a byte that is no kind,
-// the compiler jumps six ways, and reading takes three times as long.
-pub fn read_gates(n: usize, list: &[u8]) -> ListRead
-    requires { (n ≤ max_wires) × AllWellFormed n (gates_of list.now) }
-    ensures { ReadAll n list.now result }
+// these in place. No gate has a fault, so that what adds no phase is a CNOT: with a third way, for a byte that is no kind, the compiler
+// jumps six ways, and reading takes three times as long.
+pub fn read_gates(list: &FormedList<'_>) -> ListRead
+    ensures { ReadAll list.now.wires.count list.now.gates.now result }
 {
     let mut weights = [0; TABLE_BYTES];
-    let mut rows = first_rows(n);
+    let mut rows = first_rows(list.wires.count);
     let mut tcount = 0;
-    for &[kind, a, b] in gates(list) {
+    for &[kind, a, b] in gates(list.gates) {
         match GateKind::try_from(kind).ok().and_then(GateKind::phase) {
             None => join_rows(&mut rows, a, b),
             Some(v) => {
@@ -56,6 +56,7 @@ fn first_rows(n: usize) -> [Parity; MAX_WIRES]
     rows
 }
 
+// Row i before any gate. `row_most` of `synth` asks `i < n` too, and gives the most that row i may be: another value of another meaning.
 fn first_row(n: usize, i: usize) -> Parity
     requires { i < max_wires }
     ensures { result ≡ first_row n i }
@@ -63,7 +64,8 @@ fn first_row(n: usize, i: usize) -> Parity
     if i < n { unit(i) } else { 0 }
 }
 
-// A CNOT XORs its control's parity into its target's.
+// A CNOT XORs its control's parity into its target's. Clauses say that a wire is below the most, here as above: it is a byte of a gate, or
+// the number of a loop, and a struct with that fact would be made anew for each gate.
 fn join_rows(rows: &mut [Parity; MAX_WIRES], a: u8, b: u8)
     requires { (a < max_wires) × (b < max_wires) }
     ensures { rows.new ≡ join_rows a b rows.old }

@@ -15,7 +15,7 @@ use Rattle.phase.proofs.Laws.{new_weights_odd_set, new_weights_same_phases, new_
 use Rattle.phase.specs.Coefficients.{SamePhases}
 use Rattle.phase.specs.NewWeights.{MarksAndRest}
 use Rattle.phase.specs.Signature.{SameSignature}
-use Rattle.weights.proofs.Ways.{Wires}
+use Rattle.weights.proofs.Ways.{FewWires}
 use Rattle.rests.proofs.Ways.{new_weights_passes}
 use Rattle.rests.specs.Entry.{NewWeightsOf, new_weights_fault}
 
@@ -23,7 +23,7 @@ use Rattle.rests.specs.Entry.{NewWeightsOf, new_weights_fault}
 
 pub new_weights_accepts : (n : ℕ) (w marks : List ℕ) (out : ℕ)
     → (call_reply (new_weights_fault n w marks out) ≡ Done)
-    ↔ (Wires n × (out ≡ table_bytes) × (SoundWeights parities n w × SoundMarks parities n marks))
+    ↔ (FewWires n × (out ≡ table_bytes) × (SoundWeights parities n w × SoundMarks parities n marks))
 new_weights_accepts n w marks out = call_accepts _ (new_weights_passes n w marks out)
 
 -- ---- what the promise means after Done
@@ -31,7 +31,7 @@ new_weights_accepts n w marks out = call_accepts _ (new_weights_passes n w marks
 -- where the marks have the signature of the weights, the output is sound, has the marks as its odd set and the phases of the weights, and
 -- is the only sound table of document 01's shape that does
 module _ (n : ℕ) (w marks out out' : List ℕ) (r : NewWeightsOf n w marks out out' Done) (same : SameSignature n marks w) where
-  accepted : Wires n × (length out ≡ table_bytes) × (SoundWeights parities n w × SoundMarks parities n marks)
+  accepted : FewWires n × (length out ≡ table_bytes) × (SoundWeights parities n w × SoundMarks parities n marks)
   accepted = (new_weights_accepts n w marks (length out)).0 (sym r.reply)
 
   room : 2 ^ n ≤ parities

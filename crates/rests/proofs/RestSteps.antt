@@ -1,5 +1,5 @@
 -- The steps of the code that finds the new weights, over plain numbers and lists.
-use mathlib.Core.List.{List, ◌++◌}
+use mathlib.Core.List.{List, ◌++◌, map}
 use mathlib.Core.Logic.{◌≢◌}
 use mathlib.Core.Path.{ap, refl, sym, ◌∙◌, ◌≡◌}
 use Prim.Native.Nat.{◌%◌, ◌*◌, ◌+◌, ◌<◌, ◌^◌, suc, zero, ℕ, ◌≤◌}
@@ -11,9 +11,14 @@ use lib.ListN.{length, length-set, set, take}
 use lib.Seq.{get_or-set_other, get_or-set_same}
 use borrow.Rule.Slice.PartMut.{post_of}
 use Rattle.std.proofs.lemmas.List.{places}
+use Rattle.std.proofs.lemmas.List.FromFn.{sum_by-map-range_with_len_more}
+use Rattle.std.specs.List.{range_with_len}
+use Rattle.std.specs.List.{sum as list_sum}
+use Rattle.circuit.proofs.Steps.{shifted}
+use Rattle.circuit.specs.Limits.{max_wires}
 use Rattle.circuit.specs.Sound.{SoundMarks, SoundWeights, weight}
 use Rattle.gf2.proofs.Bit.{bit-pow_other}
-use Rattle.gf2.proofs.Sum.{sum-suc}
+use Rattle.gf2.proofs.Sum.{sum-ext}
 use Rattle.gf2.proofs.Superset.{with_bit}
 use Rattle.gf2.specs.Sum.{sum}
 use Rattle.phase.proofs.Lists.{Wide, marks_weights, same_list, wide}
@@ -42,13 +47,37 @@ pair_inside {n} {p} inside one j h ne =
     with_bit n p j h inside
     (rw t.2 (bit-pow_other t.0 j (λ e. ne (t.2 ∙ ap (λ (i : ℕ). 2 ^ i) e))))
 
--- the sum over the first k wires
-abbrev pub others : List ℕ → ℕ → ℕ → ℕ
-others s p k = sum k (λ j. apart p (2 ^ j) * pair_by (weight s (p + 2 ^ j)))
+-- the rest of the pair of p and wire j, whose parity is made as the machine does
+abbrev pub with_wire : List ℕ → ℕ → ℕ → ℕ
+with_wire s p j = apart p (1 * 2 ^ j % 2 ^ 64) * pair_by (weight s (p + 1 * 2 ^ j % 2 ^ 64))
 
-pub others_next : (s : List ℕ) (p j t r : ℕ) → t ≡ others s p j → r ≡ apart p (2 ^ j) * pair_by (weight s (p + 2 ^ j))
-    → t + r ≡ others s p (j + 1)
-others_next s p j t r e f = rw (add-one j, sum-suc j (λ j. apart p (2 ^ j) * pair_by (weight s (p + 2 ^ j))), e, f)
+-- a sum is that of the list of its numbers
+listed : (f : ℕ → ℕ) (n : ℕ) → list_sum (map f (range_with_len 0 n)) ≡ sum n f
+unfolding sum
+listed f zero = refl
+listed f (suc n) =
+    ap (λ (k : ℕ). list_sum (map f (range_with_len 0 k))) (sym (add-one n))
+    ∙ sum_by-map-range_with_len_more (λ x. x) f 0 n n (omega arith) ∙ ap (λ (t : ℕ). t + f n) (listed f n)
+
+-- so it is of the rests of the pairs with the wire of p, over n wires
+pub others_listed : (s : List ℕ) (p n : ℕ) → n ≤ max_wires
+    → list_sum (map (with_wire s p) (range_with_len 0 n)) ≡ sum n (λ j. apart p (2 ^ j) * pair_by (weight s (p + 2 ^ j)))
+others_listed s p n few =
+    listed (with_wire s p) n
+    ∙ sum-ext n (with_wire s p) (λ j. apart p (2 ^ j) * pair_by (weight s (p + 2 ^ j)))
+    (λ j h. ap (λ (q : ℕ). apart p q * pair_by (weight s (p + q))) (shifted 64 j (omega (arith, few))))
+
+-- each is small
+apart_small : (p q x : ℕ) → x ≤ most_rest → Dec (q ≡ p) → apart p q * x ≤ most_rest
+apart_small p q x h (yes e) = rw (e, apart_same p) (omega arith)
+apart_small p q x h (no ne) = rw (apart_other p q ne) (omega arith)
+
+pub others_small : (s : List ℕ) (p n : ℕ) → sum n (λ j. apart p (2 ^ j) * pair_by (weight s (p + 2 ^ j))) ≤ most_rest * n
+unfolding sum
+others_small s p zero = omega arith
+others_small s p (suc n) =
+    let x : ℕ = pair_by (weight s (p + 2 ^ n)) in
+    omega (arith, others_small s p n, apart_small p (2 ^ n) x (omega arith) (ℕ_discrete (2 ^ n) p))
 
 -- ---- the rest on p, by the number of its wires
 

@@ -23,9 +23,9 @@ pub fn new_weights(
     ensures { NewWeightsOf n weights.now marks.now out.old out.new (told result) }
 {
     let lent = check_lent(out.len(), TABLE_BYTES);
-    let w = check_call(n, lent, MAX_WEIGHT, weights)?;
+    let (wires, w) = check_call(n, lent, MAX_WEIGHT, weights)?;
     let u = check_table(n, MAX_MARK, marks)?;
-    // Without a fault the output is as long as a table.
-    put_new_weights(n, w, u, out.as_mut_array().unwrap());
+    // Without a fault the output is as long as a table. To say so by a type, the judge of the call would have to take it and give it back.
+    put_new_weights(wires, w, u, out.as_mut_array().unwrap());
     Ok(())
 }

@@ -4,47 +4,46 @@
 ghost use Rattle.std.specs.Prelude.{◌≢◌, ◌≡◌, ◌%◌, ◌+◌, ◌*◌, ◌<◌, ◌≤◌, ◌^◌, length};
 ghost use Rattle.std.specs.Int.Count.{ones};
 ghost use Rattle.gf2.specs.Sum.{sum};
-ghost use Rattle.circuit.specs.Limits.{max_wires, parities};
+ghost use Rattle.circuit.specs.Limits.{parities};
 ghost use Rattle.circuit.specs.Sound.{SoundMarks, SoundWeights, weight};
 ghost use Rattle.phase.specs.NewWeights.{apart, new_weights};
-ghost use Rattle.sums.specs.Difference.{SumsFit};
 ghost use Rattle.rests.specs.Rests.{RestsTo, most_rest, one_by, pair_by, rest_by};
 
 use circuit::limits::{Mark, Parity, TABLE_BYTES, Weight};
 use circuit::parity::wires_of;
-use sums::put_difference_sums;
+use circuit::wires::Wires;
+use sums::difference_sums;
 
 // Internal: the caller has found no fault. The difference is 0 from 2^n up, so that the sums go over the parities of n wires alone; the
 // marks are 0 from there on, as the new weights are.
 pub fn put_new_weights(
-    n: usize,
+    wires: Wires,
     w: &[Weight; TABLE_BYTES],
     u: &[Mark; TABLE_BYTES],
     out: &mut [Weight; TABLE_BYTES],
 )
-    requires { (n ≤ max_wires) × SoundWeights parities n w.now × SoundMarks parities n u.now }
-    ensures { out.new ≡ new_weights parities n w.now u.now }
+    requires { SoundWeights parities wires.count w.now × SoundMarks parities wires.count u.now }
+    ensures { out.new ≡ new_weights parities wires.count w.now u.now }
 {
-    let mut table = [0; TABLE_BYTES];
-    let s = &mut table[..1 << n];
-    put_difference_sums(n, w, u, s);
+    let mut room = [0; TABLE_BYTES];
+    let s = difference_sums(wires, w, u, &mut room);
     out.copy_from_slice(u);
-    let sums = SumTable { n, s };
+    let sums = SumTable { wires, s };
     sums.add_rests(out);
 }
 
-// The sums on the parities of n wires.
+// The sums on the parities of n wires. That a place p is one of them stands in clauses: it is the number of a loop over them.
 #[derive(Clone, Copy)]
 struct SumTable<'a> {
-    n: usize,
+    wires: Wires,
     s: &'a [Weight],
-    ghost fit: { SumsFit n s.now },
+    ghost fit: { length s.now ≡ 2 ^ wires.count },
 }
 
 impl SumTable<'_> {
     // The rest of each parity of n wires is added.
     fn add_rests(&self, out: &mut [Weight; TABLE_BYTES])
-        ensures { RestsTo self.now.n self.now.s.now (2 ^ self.now.n) out.old out.new }
+        ensures { RestsTo self.now.wires.count self.now.s.now (2 ^ self.now.wires.count) out.old out.new }
     {
         for (p, x) in out[..self.s.len()].iter_mut().enumerate() {
             *x = with_rest(*x, self.rest(p));
@@ -53,8 +52,8 @@ impl SumTable<'_> {
 
     // The rest on p: one wire, two, or more.
     fn rest(&self, p: usize) -> u32
-        requires { p < 2 ^ self.now.n }
-        ensures { (result ≡ rest_by self.now.n self.now.s.now p) × (result ≤ most_rest) }
+        requires { p < 2 ^ self.now.wires.count }
+        ensures { (result ≡ rest_by self.now.wires.count self.now.s.now p) × (result ≤ most_rest) }
     {
         match wires_of(p as Parity) {
             1 => self.one_rest(p),
@@ -65,24 +64,21 @@ impl SumTable<'_> {
 
     // What is left of l when the rests of the pairs with the wire of p are taken away.
     fn one_rest(&self, p: usize) -> u32
-        requires { (p < 2 ^ self.now.n) × (ones p ≡ 1) }
-        ensures { (result ≡ one_by self.now.n self.now.s.now p) × (result ≤ most_rest) }
+        requires { (p < 2 ^ self.now.wires.count) × (ones p ≡ 1) }
+        ensures { (result ≡ one_by self.now.wires.count self.now.s.now p) × (result ≤ most_rest) }
     {
         (u32::from(self.s[p]) + 7 * self.pairs_with(p)) % 8
     }
 
     // The rests of the pairs with the wire of p, summed.
     fn pairs_with(&self, p: usize) -> u32
-        requires { (p < 2 ^ self.now.n) × (ones p ≡ 1) }
-        ensures is { result ≡ sum self.now.n (λ j. apart p (2 ^ j) * pair_by (weight self.now.s.now (p + 2 ^ j))) }
-        ensures at_most { result ≤ most_rest * self.now.n }
+        requires { (p < 2 ^ self.now.wires.count) × (ones p ≡ 1) }
+        ensures is { result ≡ sum self.now.wires.count (λ j. apart p (2 ^ j) * pair_by (weight self.now.s.now (p + 2 ^ j))) }
+        ensures at_most { result ≤ most_rest * self.now.wires.count }
     {
-        let mut t = 0;
-        // Not `(0..self.n).map(..).sum()`: tried, and the proof that the sum fits, and of what it is, did not close.
-        for j in 0..self.n {
-            t += self.pair_with(p, 1 << j);
-        }
-        t
+        (0..self.wires.count)
+            .map(|j| self.pair_with(p, 1 << j))
+            .sum()
     }
 
     // The rest of the wires of p and of q, and nothing where they are one wire.

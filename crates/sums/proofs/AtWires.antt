@@ -1,10 +1,10 @@
 -- The superset sums of w less u at one wire, at two and at three: the sums behind l, q and c of the one less those of the other.
 use mathlib.Core.List.{List}
 use mathlib.Core.Path.{ap, sym, ◌∙◌, ◌≡◌}
-use Prim.Native.Nat.{◌%◌, ◌*◌, ◌+◌, ◌<◌, ◌^◌, ℕ, ◌≤◌}
+use Prim.Native.Nat.{◌%◌, ◌*◌, ◌+◌, ◌<◌, ◌^◌, ℕ}
 use native.Mathlib.Omega.{arith}
 use lib.Pow.{pow-lt}
-use Rattle.circuit.specs.Sound.{SoundMarks, SoundWeights, weight}
+use Rattle.circuit.specs.Sound.{weight}
 use Rattle.gf2.proofs.Bit.{three_lt, two_lt}
 use Rattle.gf2.proofs.Modular.{mul_mod_l}
 use Rattle.gf2.proofs.Sum.{sum-add, sum-mod, sum-scale}
@@ -13,10 +13,10 @@ use Rattle.gf2.specs.Bit.{bit}
 use Rattle.gf2.specs.Sum.{sum}
 use Rattle.gf2.specs.Superset.{superset}
 use Rattle.gf2.specs.Table.{weighted_sum}
-use Rattle.phase.proofs.Lists.{Wide, marks_weights, weighted_sum-wide}
+use Rattle.phase.proofs.Lists.{Wide, weighted_sum-wide}
 use Rattle.phase.proofs.Sums.{C, L, Q}
 use Rattle.sums.proofs.Difference.{difference_at, length-difference}
-use Rattle.sums.specs.Difference.{DifferenceSums, Summable, difference}
+use Rattle.sums.specs.Difference.{DifferenceSums, difference}
 
 module _ (n : ℕ) (w u s : List ℕ) (ww : Wide n w) (wu : Wide n u) (sums : DifferenceSums n w u s) where
   abbrev d : ℕ → ℕ

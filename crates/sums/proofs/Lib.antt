@@ -1,4 +1,3 @@
 pub mod BlockSums
 pub mod Difference
 pub mod AtWires
-pub mod Lending

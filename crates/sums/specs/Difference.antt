@@ -1,6 +1,5 @@
 -- One table less another, modulo 8, and the superset sums of that.
-use Rattle.std.specs.Prelude.{List, ◌≡◌, ◌%◌, ◌*◌, ◌+◌, ◌^◌, ℕ, ◌≤◌, length}
-use Rattle.circuit.specs.Limits.{max_wires}
+use Rattle.std.specs.Prelude.{List, ◌%◌, ◌*◌, ◌+◌, ◌^◌, ℕ, ◌≤◌, length}
 use Rattle.circuit.specs.Sound.{weight}
 use Rattle.gf2.specs.Over.{Below}
 use Rattle.gf2.specs.Table.{tabulate}
@@ -15,11 +14,6 @@ abbrev pub DifferenceSums : ℕ → List ℕ → List ℕ → List ℕ → Type 
 DifferenceSums n w u s = SumsTo n (difference (2 ^ n) w u) s
 
 -- ---- what the code takes
-
--- room for the sums of n wires
-pub record SumsFit (n : ℕ) (s : List ℕ) : Type 0 where
-  pub few : n ≤ max_wires
-  pub long : length s ≡ 2 ^ n
 
 -- a table with a place for each parity of n wires, each number below 8
 pub record Summable (n : ℕ) (w : List ℕ) : Type 0 where

@@ -3,22 +3,31 @@
 // c, modulo 2. So one pass over the wires gives all coefficients. The new weights and the comparison of two lists share it. No entry.
 #![tactic(auto)]
 
-ghost use Rattle.std.specs.Prelude.{◌≡◌, ◌≤◌, length};
+ghost use Rattle.std.specs.Prelude.{◌≡◌, ◌^◌, ◌≤◌, length};
 ghost use Rattle.gf2.specs.Over.{Below};
-ghost use Rattle.sums.specs.Difference.{DifferenceSums, SumsFit, Summable, difference};
+ghost use Rattle.sums.specs.Difference.{DifferenceSums, Summable, difference};
 
 pub mod summing;
 
 use circuit::limits::Weight;
+use circuit::wires::Wires;
 use summing::put_sums;
 
-// The sums of w less u, on the parities of n wires. Internal: the caller lends room for these, and tables that have them all.
-pub fn put_difference_sums(n: usize, w: &[Weight], u: &[Weight], s: &mut [Weight])
-    requires { SumsFit n s.old × Summable n w.now × Summable n u.now }
-    ensures { DifferenceSums n w.now u.now s.new }
+// The sums of w less u, on the parities of so many wires: they are made at the start of the room lent. Internal: the caller brings tables
+// that have these parities.
+pub fn difference_sums<'a>(
+    wires: Wires,
+    w: &[Weight],
+    u: &[Weight],
+    room: &'a mut [Weight],
+) -> &'a [Weight]
+    requires { (2 ^ wires.count ≤ length room.old) × Summable wires.count w.now × Summable wires.count u.now }
+    ensures { DifferenceSums wires.count w.now u.now result.now }
 {
-    put_difference(w, u, s);
-    put_sums(n, s);
+    let sums = &mut room[..wires.parities()];
+    put_difference(w, u, sums);
+    put_sums(wires, sums);
+    sums
 }
 
 // w less u, modulo 8.
@@ -26,6 +35,7 @@ fn put_difference(w: &[Weight], u: &[Weight], out: &mut [Weight])
     requires { (length out.old ≤ length w.now) × (length out.old ≤ length u.now) × Below 8 w.now × Below 8 u.now }
     ensures { out.new ≡ difference (length out.old) w.now u.now }
 {
+    // Not by `zip`, as `summing::add_block` says.
     for (p, x) in out.iter_mut().enumerate() {
         *x = (w[p] + 7 * u[p]) % 8;
     }

@@ -15,7 +15,7 @@ use Rattle.phase.proofs.Laws.{odd_set_has_signature, odd_set_is_sound}
 use Rattle.phase.specs.Coefficients.{c, l, q}
 use Rattle.phase.specs.Signature.{SameSignature}
 use Rattle.weights.proofs.Places.{c_place, l_place, q_place}
-use Rattle.weights.proofs.Ways.{Wires, coefficients_passes, odd_set_passes}
+use Rattle.weights.proofs.Ways.{FewWires, coefficients_passes, odd_set_passes}
 use Rattle.weights.specs.Entry.{CoefficientsOf, OddSetOf, coefficients_fault, odd_set_fault}
 
 -- ---- fault 6, exactly where weights or marks are not sound
@@ -29,12 +29,12 @@ no_fault_sound_marks = marks_sound parities
 -- ---- demand 1: which calls are accepted. Nothing sound is refused, nothing faulty is accepted
 
 pub odd_set_accepts : (n : ℕ) (w : List ℕ) (marks : ℕ)
-    → (call_reply (odd_set_fault n w marks) ≡ Done) ↔ (Wires n × (marks ≡ table_bytes) × SoundWeights parities n w)
+    → (call_reply (odd_set_fault n w marks) ≡ Done) ↔ (FewWires n × (marks ≡ table_bytes) × SoundWeights parities n w)
 odd_set_accepts n w marks = call_accepts _ (odd_set_passes n w marks)
 
 pub coefficients_accepts : (n : ℕ) (w : List ℕ) (ls qs cs : ℕ)
     → (call_reply (coefficients_fault n w ls qs cs) ≡ Done)
-    ↔ (Wires n × ((ls ≡ max_wires) × (qs ≡ pair_bytes) × (cs ≡ triple_bytes)) × SoundWeights parities n w)
+    ↔ (FewWires n × ((ls ≡ max_wires) × (qs ≡ pair_bytes) × (cs ≡ triple_bytes)) × SoundWeights parities n w)
 coefficients_accepts n w ls qs cs = call_accepts _ (coefficients_passes n w ls qs cs)
 
 -- ---- what the promises mean after Done

@@ -11,13 +11,13 @@ use Rattle.circuit.specs.Sound.{SoundWeights}
 use Rattle.weights.specs.Entry.{coefficients_fault, lists_fault, odd_set_fault}
 
 -- a wire count that is no fault
-abbrev pub Wires : ℕ → Type 0
-Wires n = (1 ≤ n) × (n ≤ max_wires)
+abbrev pub FewWires : ℕ → Type 0
+FewWires n = (1 ≤ n) × (n ≤ max_wires)
 
 -- ---- the entries
 
 pub odd_set_passes : (n : ℕ) (w : List ℕ) (marks : ℕ)
-    → (odd_set_fault n w marks ≡ 0) ↔ (Wires n × (marks ≡ table_bytes) × SoundWeights parities n w)
+    → (odd_set_fault n w marks ≡ 0) ↔ (FewWires n × (marks ≡ table_bytes) × SoundWeights parities n w)
 odd_set_passes n w marks = (
   λ e. let a = (weights_passes n (lent_fault marks table_bytes) w).0 e in (a.0, lent_pass marks table_bytes a.1, a.2),
   λ s. (weights_passes n (lent_fault marks table_bytes) w).1 (s.0, lent_well marks table_bytes s.1, s.2),
@@ -36,7 +36,7 @@ lists_passes l q c = (
 )
 
 pub coefficients_passes : (n : ℕ) (w : List ℕ) (l q c : ℕ)
-    → (coefficients_fault n w l q c ≡ 0) ↔ (Wires n × Lengths l q c × SoundWeights parities n w)
+    → (coefficients_fault n w l q c ≡ 0) ↔ (FewWires n × Lengths l q c × SoundWeights parities n w)
 coefficients_passes n w l q c = (
   λ e. let a = (weights_passes n (lists_fault l q c) w).0 e in (a.0, (lists_passes l q c).0 a.1, a.2),
   λ s. (weights_passes n (lists_fault l q c) w).1 (s.0, (lists_passes l q c).1 s.1, s.2),

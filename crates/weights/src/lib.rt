@@ -23,7 +23,7 @@ pub fn odd_set(n: usize, weights: &[Weight], marks: &mut [Mark]) -> Result<(), R
     ensures { OddSetOf n weights.now marks.old marks.new (told result) }
 {
     let lent = check_lent(marks.len(), TABLE_BYTES);
-    let w = check_call(n, lent, MAX_WEIGHT, weights)?;
+    let (_, w) = check_call(n, lent, MAX_WEIGHT, weights)?;
     put_odd_set(w, marks);
     Ok(())
 }
@@ -41,8 +41,9 @@ pub fn coefficients(
         l.new q.new c.new (told result) }
 {
     let lent = check_lists(l.len(), q.len(), c.len());
-    let w = check_call(n, lent, MAX_WEIGHT, weights)?;
-    // Without a fault each list is as long as its array.
+    let (_, w) = check_call(n, lent, MAX_WEIGHT, weights)?;
+    // Without a fault each list is as long as its array. To say so by types, the judge of the call would have to take all three and give
+    // them back.
     put_lists(
         n,
         w,
@@ -58,6 +59,8 @@ pub fn put_odd_set(weights: &[Weight], marks: &mut [Mark])
     requires { length weights.now ≡ length marks.old }
     ensures { marks.new ≡ odd_set weights.now }
 {
+    // Not `marks.iter_mut().zip(weights)`: tried, and then a proof knows how many marks there are, and no mark. Nor copied, and then
+    // changed in place: that took 15 ns, and this takes 12.
     for (p, mark) in marks.iter_mut().enumerate() {
         *mark = weights[p] % 2;
     }

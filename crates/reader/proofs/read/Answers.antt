@@ -1,4 +1,4 @@
--- A list in which no fault is found is accepted.
+-- Where no fault is found, what is lent has its length.
 use mathlib.Core.Path.{◌≡◌}
 use borrow.Author.Rules.{rules}
 use lib.ListN.{length}
@@ -12,4 +12,4 @@ put_reading-requires c =
     let a = c.args in
     let done : read_reply a.n a.gates.now (length a.weights.now) (length a.rows.now) ≡ Done = search rules in
     let is = read_is_accepted a.n a.gates.now (length a.weights.now) (length a.rows.now) done in
-    record { accepted = is.0; weights_fit = is.1; rows_fit = is.2 }
+    (is.1, is.2)

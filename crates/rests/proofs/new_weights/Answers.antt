@@ -6,6 +6,7 @@ use Rattle.rests.proofs.new_weights.Goals as goal
 
 pub put_new_weights-requires : goal.put_new_weights-requires
 put_new_weights-requires c =
-    let w = (weights_passes c.args.n _ c.args.weights.now).0 (sym c.in_ok-w.ensures.fault) in
+    let w = (weights_passes c.args.n _ c.args.weights.now).0 (sym c.in_ok-wires.ensures.fault) in
     let u = (marks_sound parities c.args.n c.args.marks.now).0 (sym c.in_ok-u.ensures.fault) in
-    rw (c.in_ok-w.ensures.same, c.in_ok-u.ensures.same) (w.0.1, w.2, u)
+    let same = c.in_ok-wires.ensures.same in
+    rw (same.0, same.1, c.in_ok-u.ensures.same) (w.2, u)

@@ -11,5 +11,7 @@ use Rattle.reader.proofs.reading.read_gates.Given as goal
 abbrev pub invariant-loop-kind : goal.invariant-loop-kind
 invariant-loop-kind l = record {
   few : l.tcount ≤ l.kind-index;
-  to : ReadTo max_wires l.n (gates_of l.list) (map gate_of (drop l.kind-index l.kind-items)) (reading_lent l.weights l.rows) l.tcount;
+  to :
+      let rest = map gate_of (drop l.kind-index l.kind-items) in
+      ReadTo max_wires l.list.wires.count (gates_of l.list.gates.now) rest (reading_lent l.weights l.rows) l.tcount;
 }

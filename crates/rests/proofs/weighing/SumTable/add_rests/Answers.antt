@@ -20,7 +20,7 @@ loop-p-preserved c =
 pub returns : goal.returns
 returns c =
     let t = c.args.self.now in
-    let room : 2 ^ t.n ≤ length c.args.out.now = omega (arith, pow_mono {i = t.n} {j = max_wires} t.fit.few) in
-    let front = length-take-le (length t.s.now) c.args.out.now (omega (arith, t.fit.long)) in
-    let all : c.loop-p.p ≡ 2 ^ t.n = omega (arith, t.fit.long, front) in
-    rw t.fit.long (rests_end room (rw (all, t.fit.long) at c.loop-p.invariant))
+    let room : 2 ^ t.wires.count ≤ length c.args.out.now = omega (arith, pow_mono {i = t.wires.count} {j = max_wires} t.wires.few) in
+    let front = length-take-le (length t.s.now) c.args.out.now (omega (arith, t.fit)) in
+    let all : c.loop-p.p ≡ 2 ^ t.wires.count = omega (arith, t.fit, front) in
+    rw t.fit (rests_end room (rw (all, t.fit) at c.loop-p.invariant))

@@ -1,24 +1,43 @@
--- One wire more.
-use mathlib.Core.Path.{refl, ◌≡◌}
+-- The wires of n are listed, and what p has with each is summed.
+use mathlib.Core.Path.{◌≡◌, ◌∙◌}
 use Prim.Native.Nat.{◌%◌, ◌*◌, ◌^◌}
 use native.Mathlib.Omega.{arith}
+use borrow.Author.Rules.{rules}
+use Rattle.std.proofs.lemmas.Iterator.{YieldsList-from_map, YieldsList-from_range, serves_from_Range}
+use Rattle.std.proofs.lemmas.Iterator.Consumers.{fits_from_yields_list, sum_from_yields_List}
 use Rattle.circuit.proofs.Steps.{shifted}
-use Rattle.gf2.specs.Sum.{sum}
-use Rattle.rests.proofs.RestSteps.{others_next, pair_inside}
+use Rattle.rests.proofs.RestSteps.{others_listed, others_small, pair_inside, with_wire}
 use Rattle.rests.proofs.weighing.SumTable.pairs_with.Goals as goal
 
-pub loop-j-init : goal.loop-j-init
-unfolding sum
-loop-j-init c = (refl, omega arith)
+pub sum-requires-clause-can : goal.sum-requires-clause-can
+sum-requires-clause-can c = (
+  tt,
+  serves_from_Range (λ x q r. search rules) (λ x a b.
+      let t = c.args.self.now in
+      let e : c.map.result.iter ≡ record { start = 0; end = c.args.self.now.wires.count } = c.map.ensures.source in
+      let f : c.map.result.iter.end ≡ c.args.self.now.wires.count = cc in
+      let wire : 1 * 2 ^ x % 2 ^ 64 ≡ 2 ^ x = shifted 64 x (omega (arith, t.wires.few, b, f)) in
+      let inside = pair_inside c.requires.0 c.requires.1 x (omega (arith, b, f)) in
+      search rules),
+)
 
-pub pair_with-t-requires : goal.pair_with-t-requires
-pair_with-t-requires c =
+pub sum-requires-clause-fits : goal.sum-requires-clause-fits
+sum-requires-clause-fits c =
     let t = c.args.self.now in
-    let wire : 1 * 2 ^ c.loop-j.j % 2 ^ 64 ≡ 2 ^ c.loop-j.j = shifted 64 c.loop-j.j (omega (arith, t.fit.few)) in
-    rw wire (λ ne. rw t.fit.long (pair_inside c.requires.0 c.requires.1 c.loop-j.j c.loop-j-test.true ne))
+    let n = t.wires.count in
+    fits_from_yields_list c.map.result (2 ^ 32)
+    (YieldsList-from_map _ (with_wire t.s.now c.args.p) (YieldsList-from_range 0 n n c.map.ensures.source (omega arith))
+    c.map.ensures.closure (λ x r q k. search rules))
+    (omega (arith, t.wires.few, others_listed t.s.now c.args.p n t.wires.few, others_small t.s.now c.args.p n))
 
-pub loop-j-preserved : goal.loop-j-preserved
-loop-j-preserved c =
+pub returns-clause-is : goal.returns-clause-is
+returns-clause-is c =
     let t = c.args.self.now in
-    let wire : 1 * 2 ^ c.loop-j.j % 2 ^ 64 ≡ 2 ^ c.loop-j.j = shifted 64 c.loop-j.j (omega (arith, t.fit.few)) in
-    (others_next t.s.now c.args.p c.loop-j.j _ _ c.loop-j.invariant.0 (rw wire at c.pair_with-t.ensures.0), omega arith)
+    let n = t.wires.count in
+    sum_from_yields_List c.map.result _ c.sum.ensures.ran
+    (YieldsList-from_map _ (with_wire t.s.now c.args.p) (YieldsList-from_range 0 n n c.map.ensures.source (omega arith))
+    c.map.ensures.closure (λ x r q k. search rules))
+    ∙ others_listed t.s.now c.args.p n t.wires.few
+
+pub returns-clause-at_most : goal.returns-clause-at_most
+returns-clause-at_most c = omega (arith, returns-clause-is c, others_small c.args.self.now.s.now c.args.p c.args.self.now.wires.count)
