@@ -10,7 +10,7 @@ use native.Mathlib.Omega.{arith}
 use lib.Bits.{bit_xor, xor_zero_r}
 use lib.ListN.{get_or, length, set}
 use lib.Seq.{get_or-set_other}
-use Rattle.std.specs.Prelude.{IsSome, MatchOption, None, Option, Some}
+use Rattle.std.specs.Prelude.{Err, IsOk, MatchOption, None, Ok, Option, Result, Some}
 use Rattle.circuit.proofs.Filling.{put_filled, put_long}
 use Rattle.circuit.specs.Gate.{Gate}
 use Rattle.circuit.specs.Limits.{max_wires}
@@ -21,11 +21,17 @@ use Rattle.gf2.proofs.Table.{Filled, filled_all}
 use Rattle.gf2.specs.Bit.{bit}
 use Rattle.written.proofs.MaskSteps.{Going, going_start, held_after, length-recount, recount_at}
 use Rattle.written.proofs.Pivots.{pivot_hit, pivot_miss}
-use Rattle.written.proofs.RowsWritten.{going_next, sound_pivot}
+use Rattle.written.proofs.RowRule.{dependent_fault, independent_clear}
+use Rattle.written.proofs.RowsWritten.{going_ends, going_next, going_stops, sound_pivot}
+use Rattle.written.specs.Faults.{Shaped, cancel_fault}
 use Rattle.written.specs.Writing.{cnots, lack, pivot, pivot_from, recount, rows_from, write_rows}
 use Rattle.synth.proofs.Stores.{room_first, room_then, stored_none, stored_then}
-use Rattle.synth.specs.Storing.{Room, RowsReady, Stepped, Stored}
+use Rattle.synth.specs.Storing.{NextRow, Room, RowsReady, Solved, Stepped, Stored, Stuck}
+use Rattle.circuit.specs.Told.{number}
+use Rattle.circuit.specs.declared.faults.Fault.{Fault}
+use Rattle.circuit.specs.declared.wires.Wires.{Wires}
 use Rattle.synth.specs.declared.masks.Step.{Step}
+use Rattle.synth.specs.declared.solving.Solving.{Solving}
 use Rattle.synth.specs.declared.storing.Writer.{Writer}
 
 -- ---- the masks
@@ -117,96 +123,152 @@ lack_wire r m u eu h = let e : bit m r ≡ 0 = omega (arith, bit-lt m r) in eu �
 -- q is what mask r lacks, and p what it has too much after the first CNOTs
 pub stepped : (masks full last : List ℕ) (r b q f u : ℕ) → q ≡ lack r (get_or masks r 0) → full ≡ recount b q masks
     → f ≡ get_or full r 0 → u ≡ 2 ^ r → last ≡ recount r (bit_xor f u) full
-    → Stepped r b masks last (record { lack = q; surplus = bit_xor f u })
+    → Stepped r b masks last (record { r = r; b = b; lack = q; surplus = bit_xor f u })
 stepped masks full last r b q f u eq ef e eu el =
-    record { lacks = eq; loses = rw (e, eu, ef, eq); leaves = rw (el, e, eu, ef, eq) }
+    record { row_is = refl; pivot_is = refl; lacks = eq; loses = rw (e, eu, ef, eq); leaves = rw (el, e, eu, ef, eq) }
 
 -- ---- one row more
 
--- what the code finds as the pivot of row r
-abbrev pub PivotTold : ℕ → ℕ → List ℕ → Option ℕ → Type 0
-PivotTold n r masks found = MatchOption found (n ≤ pivot n r (get_or masks r 0)) (λ b. (b < n) × (b ≡ pivot n r (get_or masks r 0)))
+-- what is known after some rows: the masks combine rows that the wires may hold to those given
+pub record SolvingTo (on : Wires) (rows : List ℕ) (s : Solving) : Type 0 where
+  pub wires_are : s.wires ≡ on
+  pub held : List ℕ
+  pub going : Going max_wires on.count s.r rows s.masks held
 
-pub going_more : {n r b : ℕ} {rows masks masks' held : List ℕ} {s : Step} → Going max_wires n r rows masks held → r < n → n ≤ max_wires
-    → (b < n) × (b ≡ pivot n r (get_or masks r 0)) → Stepped r b masks masks' s
-    → Going max_wires n (r + 1) rows masks' (held_after r b masks held)
-going_more {n} {r} {b} h inside fit found st = rw (add-one r, st.leaves) (going_next h inside fit b found.1 found.0)
+pub solving_first : {on : Wires} {rows : List ℕ} {s : Solving} → s.wires ≡ on → s.masks ≡ rows → s.r ≡ 0 → length rows ≡ max_wires
+    → ((i : ℕ) → get_or rows i 0 < 2 ^ on.count)
+    → SolvingTo on rows s
+solving_first {on} {rows} {s} ew em er long within =
+    record {
+      wires_are = ew;
+      held = first_rows max_wires on.count;
+      going = rw (em, er) (going_start max_wires on.count rows on.few long within);
+    }
+
+module _ {on : Wires} {rows : List ℕ} {s : Solving} (h : SolvingTo on rows s) where
+  count_is : s.wires.count ≡ on.count
+  count_is = ap (λ (w : Wires). w.count) h.wires_are
+
+  module _ {step : Step} {s' : Solving} (x : Solved s step s') where
+    row_inside : s.r < on.count
+    row_inside = omega (arith, x.inside, count_is)
+
+    row_pivot : (step.b < on.count) × (step.b ≡ pivot on.count s.r (get_or s.masks s.r 0))
+    row_pivot = (rw count_is at x.within, rw count_is at x.pivot_is)
+
+    pub solving_next : SolvingTo on rows s'
+    solving_next =
+        record {
+          wires_are = x.wires_are ∙ h.wires_are;
+          held = held_after s.r step.b s.masks h.held;
+          going = rw (x.next, add-one s.r, x.stepped.leaves) (going_next h.going row_inside on.few step.b row_pivot.1 row_pivot.0);
+        }
+
+  -- a row without a pivot is dependent
+  pub solving_stuck : {fault : Fault} → Stuck s fault → number fault ≡ cancel_fault (2 ^ on.count - 1) rows
+  solving_stuck x =
+      let none : on.count ≤ pivot on.count s.r (get_or s.masks s.r 0) = rw count_is at x.none in
+      x.fault_is ∙ dependent_fault on.count rows (going_stops h.going (omega (arith, x.inside, count_is)) none)
+
+  at_end : s.wires.count ≤ s.r → s.r ≡ on.count
+  at_end l = omega (arith, s.inside, count_is)
+
+  -- where no row is left, all were independent
+  pub solving_last : s.wires.count ≤ s.r → Shaped max_wires on.count rows → 0 ≡ cancel_fault (2 ^ on.count - 1) rows
+  solving_last l shaped = independent_clear on.count rows (going_ends shaped (rw (at_end l) at h.going))
 
 -- ---- writing the rows
 
--- what the loop knows after r rows: the wires hold rows that the masks combine to those wanted, and the gates stored so far come first
-pub record RowLoop (n r : ℕ) (rows masks : List ℕ) (to to' : Writer) : Type 0 where
-  pub held : List ℕ
-  pub going : Going max_wires n r rows masks held
+-- after some rows, the gates stored so far come first
+pub record RowLoop (rows : List ℕ) (s : Solving) (to to' : Writer) : Type 0 where
+  pub solving : SolvingTo to.wires rows s
   pub done : List Gate
   pub stored : Stored to to' done
-  pub rest : done ++ rows_from n (n - r) r masks ≡ write_rows n rows
+  pub rest : done ++ rows_from to.wires.count (to.wires.count - s.r) s.r s.masks ≡ write_rows to.wires.count rows
 
-pub rows_first : {to : Writer} {n : ℕ} {rows : List ℕ} → RowsReady to n rows → RowLoop n 0 rows rows to to
-rows_first {to} {n} {rows} ready =
+pub rows_first : {to : Writer} {rows : List ℕ} {s : Solving} → RowsReady to rows → s.wires ≡ to.wires → s.masks ≡ rows → s.r ≡ 0
+    → RowLoop rows s to to
+rows_first {to} {rows} {s} ready ew em er =
     record {
-      held = first_rows max_wires n;
-      going = going_start max_wires n rows ready.few ready.sound.long ready.sound.within;
+      solving = solving_first ew em er ready.sound.long ready.sound.within;
       done = [];
       stored = stored_none to;
-      rest = ap (λ (i : ℕ). rows_from n i 0 rows) (sub-zero n);
+      rest = rw (em, er) (ap (λ (i : ℕ). rows_from to.wires.count i 0 rows) (sub-zero to.wires.count));
     }
 
-pub rows_last : {n r : ℕ} {rows masks : List ℕ} {to to' : Writer} → r ≡ n → RowLoop n r rows masks to to'
-    → Stored to to' (write_rows n rows)
-unfolding rows_from
-rows_last {n} {r} {rows} {masks} {to} {to'} e l = subst (λ (gs : List Gate). Stored to to' gs) all l.stored
-  where
-    none_left : 0 ≡ n - r
-    none_left = omega arith
+module _ {rows : List ℕ} {s : Solving} {to to' : Writer} (l : RowLoop rows s to to') where
+  pub rows_last : s.wires.count ≤ s.r → Stored to to' (write_rows to.wires.count rows)
+  unfolding rows_from
+  rows_last e = subst (λ (gs : List Gate). Stored to to' gs) all l.stored
+    where
+      none_left : 0 ≡ to.wires.count - s.r
+      none_left = omega (arith, at_end l.solving e)
 
-    all : l.done ≡ write_rows n rows
-    all = sym (append-nil l.done) ∙ ap (λ (i : ℕ). l.done ++ rows_from n i r masks) none_left ∙ l.rest
+      all : l.done ≡ write_rows to.wires.count rows
+      all = sym (append-nil l.done) ∙ ap (λ (i : ℕ). l.done ++ rows_from to.wires.count i s.r s.masks) none_left ∙ l.rest
 
-module _ {n r : ℕ} {rows masks : List ℕ} {to to' : Writer} (ready : RowsReady to n rows) (inside : r < n)
-    (l : RowLoop n r rows masks to to') where
-  -- each row has its pivot
-  pub pivot_there : (found : Option ℕ) → PivotTold n r masks found → IsSome found
-  pivot_there None h = absurd (omega (arith, sound_pivot ready.sound l.going inside))
-  pivot_there (Some b) h = refl
+  module _ (ready : RowsReady to rows) where
+    -- each row has its pivot
+    pub pivot_there : (s' : Solving) (row : Result Step Fault) → NextRow s (Some row) s' → IsOk row
+    pivot_there s' (Ok step) x = refl
+    pivot_there s' (Err fault) x =
+        let inside : s.r < to.wires.count = omega (arith, x.inside, count_is l.solving) in
+        let none : to.wires.count ≤ pivot to.wires.count s.r (get_or s.masks s.r 0) = rw (count_is l.solving) at x.none in
+        absurd (omega (arith, none, sound_pivot ready.sound l.solving.going inside))
 
-  pub pivot_is : {b : ℕ} (found : Option ℕ) → PivotTold n r masks found → found ≡ Some b → (b < n) × (b ≡ pivot n r (get_or masks r 0))
-  pivot_is {b} found h e = subst (PivotTold n r masks) e h
+    module _ {step : Step} {s' : Solving} (x : Solved s step s') where
+      abbrev n : ℕ
+      n = to.wires.count
 
-  module _ {b : ℕ} (found : (b < n) × (b ≡ pivot n r (get_or masks r 0))) {masks' : List ℕ} {s : Step}
-      (st : Stepped r b masks masks' s) where
-    -- the gates of this row, and those after it
-    abbrev here : List Gate
-    here = cnots n s.lack b ++ cnots n s.surplus r
+      -- the gates of this row, and those after it
+      abbrev here : List Gate
+      here = cnots n step.lack step.b ++ cnots n step.surplus step.r
 
-    abbrev later : List Gate
-    later = rows_from n (n - (r + 1)) (r + 1) masks'
+      abbrev later : List Gate
+      later = rows_from n (n - s'.r) s'.r s'.masks
 
-    parts : rows_from n (n - r) r masks ≡ here ++ later
-    unfolding rows_from
-    parts = rw (left_one n r inside, ← found.1, st.lacks, st.loses, st.leaves, add-one r)
+      parts : rows_from n (n - s.r) s.r s.masks ≡ here ++ later
+      unfolding rows_from
+      parts =
+          rw (
+            left_one n s.r (row_inside l.solving x),
+            ← (row_pivot l.solving x).1,
+            x.stepped.row_is,
+            x.stepped.lacks,
+            x.stepped.loses,
+            x.stepped.leaves,
+            x.next,
+            add-one s.r,
+          )
 
-    whole : l.done ++ (here ++ later) ≡ write_rows n rows
-    whole = ap (λ (gs : List Gate). l.done ++ gs) (sym parts) ∙ l.rest
+      whole : l.done ++ (here ++ later) ≡ write_rows n rows
+      whole = ap (λ (gs : List Gate). l.done ++ gs) (sym parts) ∙ l.rest
 
-    fits : Room to' here
-    fits =
-        room_first to' here later
-        (room_then l.stored (here ++ later) (subst (λ (gs : List Gate). Room to gs) (sym whole) ready.room))
+      fits : Room to' here
+      fits =
+          room_first to' here later
+          (room_then l.stored (here ++ later) (subst (λ (gs : List Gate). Room to gs) (sym whole) ready.room))
 
-    pub lack_room : Room to' (cnots n s.lack b)
-    lack_room = room_first to' (cnots n s.lack b) (cnots n s.surplus r) fits
+      pub lack_room : Room to' (cnots to'.wires.count step.lack step.b)
+      lack_room = rw l.stored.wires (room_first to' (cnots n step.lack step.b) (cnots n step.surplus step.r) fits)
 
-    module _ {to₁ : Writer} (a : Stored to' to₁ (cnots n s.lack b)) where
-      pub surplus_room : Room to₁ (cnots n s.surplus r)
-      surplus_room = room_then a (cnots n s.surplus r) fits
+      module _ {to₁ : Writer} (a : Stored to' to₁ (cnots to'.wires.count step.lack step.b)) where
+        first : Stored to' to₁ (cnots n step.lack step.b)
+        first = subst (λ (on : Wires). Stored to' to₁ (cnots on.count step.lack step.b)) l.stored.wires a
 
-      pub rows_next : {to₂ : Writer} → Stored to₁ to₂ (cnots n s.surplus r) → RowLoop n (r + 1) rows masks' to to₂
-      rows_next d =
-          record {
-            held = held_after r b masks l.held;
-            going = going_more l.going inside ready.few found st;
-            done = l.done ++ here;
-            stored = stored_then l.stored (stored_then a d);
-            rest = append_assoc l.done here later ∙ whole;
-          }
+        same : to₁.wires ≡ to.wires
+        same = a.wires ∙ l.stored.wires
+
+        pub surplus_room : Room to₁ (cnots to₁.wires.count step.surplus step.r)
+        surplus_room = rw same (room_then first (cnots n step.surplus step.r) fits)
+
+        pub rows_next : {to₂ : Writer} → Stored to₁ to₂ (cnots to₁.wires.count step.surplus step.r) → RowLoop rows s' to to₂
+        rows_next {to₂} d =
+            record {
+              solving = solving_next l.solving x;
+              done = l.done ++ here;
+              stored =
+                  stored_then l.stored
+                  (stored_then first (subst (λ (on : Wires). Stored to₁ to₂ (cnots on.count step.surplus step.r)) same d));
+              rest = append_assoc l.done here later ∙ whole;
+            }

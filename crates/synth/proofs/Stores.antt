@@ -16,16 +16,17 @@ use Rattle.synth.specs.declared.storing.Writer.{Writer}
 
 pub stored_none : (w : Writer) → Stored w w []
 unfolding bytes_of
-stored_none w = record { same = refl; counted = sym (add-zero w.count); bytes = refl }
+stored_none w = record { wires = refl; same = refl; counted = sym (add-zero w.count); bytes = refl }
 
 -- three bytes stored one after the other
-pub stored_one : (w w' : Writer) (kind a b : ℕ) {byte : ℕ} → byte ≡ kind → w'.gates.ghost_name ≡ w.gates.ghost_name
+pub stored_one : (w w' : Writer) (kind a b : ℕ) {byte : ℕ} → byte ≡ kind → w'.wires ≡ w.wires → w'.gates.ghost_name ≡ w.gates.ghost_name
     → w'.count ≡ w.count + 1
     → w'.gates.now ≡ set (set (set w.gates.now (gate_bytes * w.count) byte) (gate_bytes * w.count + 1) a) (gate_bytes * w.count + 2) b
     → Stored w w' (gate kind a b ∷ [])
 unfolding bytes_of
-stored_one w w' kind a b {byte} e same counted put =
+stored_one w w' kind a b {byte} e wires same counted put =
     record {
+      wires = wires;
       same = same;
       counted = counted;
       bytes = put ∙ three_stored w.gates.now (gate_bytes * w.count) byte a b kind a b e refl refl;
@@ -38,6 +39,7 @@ module _ {w w' : Writer} {xs : List Gate} (a : Stored w w' xs) where
   pub stored_then : {w'' : Writer} {ys : List Gate} → Stored w' w'' ys → Stored w w'' (xs ++ ys)
   stored_then {w''} {ys} b =
       record {
+        wires = b.wires ∙ a.wires;
         same = b.same ∙ a.same;
         counted = omega (arith, a.counted, b.counted, length-append xs ys);
         bytes =

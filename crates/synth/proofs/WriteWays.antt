@@ -17,6 +17,7 @@ use Rattle.circuit.specs.Replies.{Refused}
 use Rattle.circuit.specs.Told.{number, told}
 use Rattle.circuit.specs.declared.faults.Fault.{Fault}
 use Rattle.circuit.specs.declared.faults.Refusal.{Refusal}
+use Rattle.circuit.specs.declared.wires.Wires.{Wires}
 use Rattle.written.proofs.Checks.{fault_ready, longest}
 use Rattle.written.proofs.WriteBack.{list_written}
 use Rattle.written.specs.Chosen.{chosen_is}
@@ -40,20 +41,27 @@ module _ (n : ℕ) (w rows g : List ℕ) where
         gates_left = refused_keeps (λ (f : ℕ). GatesLeft f 0 n w rows g g) (λ f. refl) r;
       }
 
-  -- nothing is at fault, and these are the same weights and rows, as arrays
-  module _ (clear : 0 ≡ write_fault n w rows (length g)) {weights' rows' : List ℕ} (same : (weights' ≡ w) × (rows' ≡ rows)) where
-    pub may_write : Writable n weights' rows' (length g)
-    may_write = rw (same.0, same.1) (fault_ready n w rows (length g) (sym clear))
+  -- nothing is at fault, and these are the same wires, weights and rows
+  module _ (clear : 0 ≡ write_fault n w rows (length g)) {n' : ℕ} {weights' rows' : List ℕ}
+      (same : (n' ≡ n) × (weights' ≡ w) × (rows' ≡ rows)) where
+    pub may_write : Writable n' weights' rows' (length g)
+    may_write = rw (same.0, same.1, same.2) (fault_ready n w rows (length g) (sym clear))
 
-    pub write_done : {g' : List ℕ} {count : ℕ} → WroteBytes n weights' rows' g g' count → WriteList n w rows g g' (Ok count)
+    pub write_done : {g' : List ℕ} {count : ℕ} → WroteBytes n' weights' rows' g g' count → WriteList n w rows g g' (Ok count)
     write_done {g'} {count} d =
-        record { reply = call_done 0 (write_fault n w rows (length g)) clear refl; gates_left = rw (same.0, same.1) at d }
+        record { reply = call_done 0 (write_fault n w rows (length g)) clear refl; gates_left = rw (same.0, same.1, same.2) at d }
 
 -- ---- the gates stored
 
 -- the writer begins at the first of the lent bytes
-module _ (n : ℕ) (weights rows g : List ℕ) (ready : Writable n weights rows (length g)) (to : Writer) (lent : to.gates.now ≡ g)
-    (first : to.count ≡ 0) where
+module _ (wires : Wires) (weights rows g : List ℕ) (ready : Writable wires.count weights rows (length g)) (to : Writer)
+    (on : to.wires ≡ wires) (lent : to.gates.now ≡ g) (first : to.count ≡ 0) where
+  abbrev n : ℕ
+  n = wires.count
+
+  counts : to.wires.count ≡ n
+  counts = ap (λ (w : Wires). w.count) on
+
   abbrev phases : List Gate
   phases = write_phases max_wires n weights (2 ^ n)
 
@@ -63,15 +71,21 @@ module _ (n : ℕ) (weights rows g : List ℕ) (ready : Writable n weights rows 
   room : Room to (phases ++ write_rows n rows)
   room = omega (arith, wrote.short, longest n ready.few, ready.room, ap length lent)
 
-  pub phases_ready : PhasesReady to n weights
-  phases_ready = record { few = ready.few; sound = ready.weights_sound; room = room_first to phases (write_rows n rows) room }
+  pub phases_ready : PhasesReady to weights
+  phases_ready = record { sound = rw counts ready.weights_sound; room = rw counts (room_first to phases (write_rows n rows) room) }
 
-  module _ {to₁ : Writer} (a : Stored to to₁ (write_phases max_wires n weights (2 ^ n))) where
-    pub rows_ready : RowsReady to₁ n rows
-    rows_ready = record { few = ready.few; sound = ready.rows_sound; room = room_then a (write_rows n rows) room }
+  module _ {to₁ : Writer} (said : Stored to to₁ (write_phases max_wires to.wires.count weights (2 ^ to.wires.count))) where
+    a : Stored to to₁ phases
+    a = subst (λ (k : ℕ). Stored to to₁ (write_phases max_wires k weights (2 ^ k))) counts said
+
+    still : to₁.wires.count ≡ n
+    still = ap (λ (x : Wires). x.count) said.wires ∙ counts
+
+    pub rows_ready : RowsReady to₁ rows
+    rows_ready = record { sound = rw still ready.rows_sound; room = rw still (room_then a (write_rows n rows) room) }
 
     -- `left` is what stands in the lent bytes then
-    pub gates_stored : {to₂ : Writer} {left : List ℕ} {count : ℕ} → Stored to₁ to₂ (write_rows n rows) → left ≡ to₂.gates.now
+    pub gates_stored : {to₂ : Writer} {left : List ℕ} {count : ℕ} → Stored to₁ to₂ (write_rows to₁.wires.count rows) → left ≡ to₂.gates.now
         → count ≡ to₂.count → WroteBytes n weights rows g left count
     gates_stored {to₂} {left} {count} b e f = rw (e, f) whole
       where
@@ -79,7 +93,7 @@ module _ (n : ℕ) (weights rows g : List ℕ) (ready : Writable n weights rows 
         gs = phases ++ write_rows n rows
 
         all : Stored to to₂ gs
-        all = stored_then a b
+        all = stored_then a (subst (λ (k : ℕ). Stored to₁ to₂ (write_rows k rows)) still b)
 
         bytes : take (gate_bytes * to₂.count) to₂.gates.now ≡ bytes_of gs
         bytes = stored_front all first room

@@ -11,11 +11,13 @@ pub mod faults;
 pub mod masks;
 pub mod phases;
 pub mod rows;
+pub mod solving;
 pub mod spelling;
 pub mod storing;
 
 use circuit::faults::Refusal;
 use circuit::limits::{MAX_WIRES, Parity, TABLE_BYTES, Weight};
+use circuit::wires::Wires;
 use faults::check_write;
 use phases::write_phases;
 use rows::write_rows;
@@ -31,23 +33,23 @@ pub fn write(
 ) -> Result<usize, Refusal>
     ensures { WriteList n weights.now rows.now gates.old gates.new result }
 {
-    let (weights, rows) = check_write(n, weights, rows, gates.len())?;
-    Ok(write_sound(n, weights, rows, gates))
+    let (wires, weights, rows) = check_write(n, weights, rows, gates.len())?;
+    Ok(write_sound(wires, weights, rows, gates))
 }
 
 // The gates, and their number. Internal: the caller has found no fault. It is public for the trim, which has proved its weights and rows
 // sound.
 pub fn write_sound(
-    n: usize,
+    wires: Wires,
     weights: &[Weight; TABLE_BYTES],
     rows: &[Parity; MAX_WIRES],
     gates: &mut [u8],
 ) -> usize
-    requires { Writable n weights.now rows.now (length gates.old) }
-    ensures { WroteBytes n weights.now rows.now gates.old gates.new result }
+    requires { Writable wires.count weights.now rows.now (length gates.old) }
+    ensures { WroteBytes wires.count weights.now rows.now gates.old gates.new result }
 {
-    let mut to = Writer::new(gates);
-    write_phases(&mut to, n, weights);
-    write_rows(&mut to, n, rows);
+    let mut to = Writer::new(wires, gates);
+    write_phases(&mut to, weights);
+    write_rows(&mut to, rows);
     to.count
 }

@@ -1,5 +1,5 @@
-// Solving for the rows: mask i names the wires whose parities make row i, and CNOTs bring mask i to 2^i, row by row.
-// Internal: the caller has found no fault.
+// The masks by which rows are solved for: mask i names the wires whose parities make row i. Internal.
+// That a wire is below max_wires stands in four clauses and in no type: it is a loop's number, and a struct would be made anew each turn.
 ghost use Rattle.std.specs.Prelude.{◌↔◌, ◌≡◌, ◌<◌, ◌≤◌, IsTrue, MatchOption};
 ghost use Rattle.circuit.specs.Limits.{max_wires};
 ghost use Rattle.gf2.specs.Bit.{bit};
@@ -8,10 +8,13 @@ ghost use Rattle.synth.specs.Storing.{Stepped};
 
 use circuit::limits::{MAX_WIRES, Parity};
 use circuit::parity::unit;
+use circuit::wires::Wires;
 
-// One row: CNOTs from the wires of `lack` into the pivot, then from the wires of `surplus` into the row's wire.
+// One row: CNOTs from the wires of `lack` into its pivot b, then from the wires of `surplus` into its wire r.
 #[derive(Clone, Copy, Debug, PartialEq, Eq)]
 pub struct Step {
+    pub r: usize,
+    pub b: usize,
     pub lack: Parity,
     pub surplus: Parity,
 }
@@ -25,15 +28,20 @@ pub fn row_step(masks: &mut [Parity; MAX_WIRES], r: usize, b: usize) -> Step
     recount_masks(masks, b, lack);
     let surplus = masks[r] ^ unit(r);
     recount_masks(masks, r, surplus);
-    Step { lack, surplus }
+    Step {
+        r,
+        b,
+        lack,
+        surplus,
+    }
 }
 
-// The lowest wire from r on that m names, if there is one below n.
-pub fn pivot_of(n: usize, r: usize, m: Parity) -> Option<usize>
-    requires { (n ≤ max_wires) × (r ≤ n) }
-    ensures { MatchOption result (n ≤ pivot n r m) (λ b. (b < n) × (b ≡ pivot n r m)) }
+// The lowest wire from r on that m names, if there is one.
+pub fn pivot_of(wires: Wires, r: usize, m: Parity) -> Option<usize>
+    requires { r ≤ wires.count }
+    ensures { MatchOption result (wires.count ≤ pivot wires.count r m) (λ b. (b < wires.count) × (b ≡ pivot wires.count r m)) }
 {
-    (r..n).find(|&b| names(m, b))
+    (r..wires.count).find(|&b| names(m, b))
 }
 
 // What mask m lacks of wire r.

@@ -11,19 +11,19 @@ use circuit::limits::{Parity, TABLE_BYTES, Weight};
 use circuit::parity::{lowest, unit};
 
 // All parities.
-pub fn write_phases(to: &mut Writer<'_>, n: usize, weights: &[Weight; TABLE_BYTES])
-    requires { PhasesReady to.old n weights.now }
-    ensures { Stored to.old to.new (write_phases max_wires n weights.now (2 ^ n)) }
+pub fn write_phases(to: &mut Writer<'_>, weights: &[Weight; TABLE_BYTES])
+    requires { PhasesReady to.old weights.now }
+    ensures { Stored to.old to.new (write_phases max_wires to.old.wires.count weights.now (2 ^ to.old.wires.count)) }
 {
-    for (p, &v) in weights[..1 << n].iter().enumerate() {
-        write_parity(to, n, p as Parity, v);
+    for (p, &v) in weights[..to.wires.parities()].iter().enumerate() {
+        write_parity(to, p as Parity, v);
     }
 }
 
 // Weight v at parity p; no gate for weight 0.
-fn write_parity(to: &mut Writer<'_>, n: usize, p: Parity, v: Weight)
-    requires { ParityReady to.old n p v }
-    ensures { Stored to.old to.new (write_parity max_wires n p v) }
+fn write_parity(to: &mut Writer<'_>, p: Parity, v: Weight)
+    requires { ParityReady to.old p v }
+    ensures { Stored to.old to.new (write_parity max_wires to.old.wires.count p v) }
 {
     if v == 0 {
         return;
@@ -31,7 +31,7 @@ fn write_parity(to: &mut Writer<'_>, n: usize, p: Parity, v: Weight)
     let t = lowest(p);
     let q = p ^ unit(t);
     let w = t as u8;
-    to.push_cnots(n, q, w);
+    to.push_cnots(q, w);
     spell_out(to, v, w);
-    to.push_cnots(n, q, w);
+    to.push_cnots(q, w);
 }

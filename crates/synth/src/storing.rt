@@ -1,36 +1,42 @@
 // Gates stored in lent bytes, one after the other. Internal: the caller has found no fault, so that there is room.
-ghost use Rattle.std.specs.Prelude.{[], ◌∷◌, ◌≡◌, ◌≤◌};
+ghost use Rattle.std.specs.Prelude.{[], ◌∷◌, ◌≡◌};
 ghost use Rattle.circuit.specs.Gate.{gate};
-ghost use Rattle.circuit.specs.Kinds.{number_of};
-ghost use Rattle.circuit.specs.Limits.{max_wires};
+ghost use Rattle.circuit.specs.Kinds.{kind_byte};
 ghost use Rattle.synth.specs.Storing.{Room, Stored, on_wire};
 ghost use Rattle.written.specs.Writing.{cnots};
 
+use circuit::bits::BitsOf;
 use circuit::gates::GateKind;
 use circuit::limits::{GATE_BYTES, Parity};
-use circuit::parity::next_wire;
+use circuit::wires::Wires;
 
-// Lent bytes, and how many gates stand there.
+// The wires that the gates are on, lent bytes, and how many gates stand there. C lends the bytes, and the count is what it gets.
 #[derive(Drop)]
 pub struct Writer<'a> {
-    gates: &'a mut [u8],
+    pub wires: Wires,
+    pub gates: &'a mut [u8],
     pub count: usize,
 }
 
 impl<'a> Writer<'a> {
     // The first gate will stand at the first byte.
-    pub fn new(gates: &'a mut [u8]) -> Writer<'a>
+    pub fn new(wires: Wires, gates: &'a mut [u8]) -> Writer<'a>
+        ensures wires { result.wires ≡ wires }
         ensures same { result.gates.ghost_name ≡ gates.entry.ghost_name }
         ensures bytes { result.gates.now ≡ gates.old }
         ensures count { result.count ≡ 0 }
     {
-        Writer { gates, count: 0 }
+        Writer {
+            wires,
+            gates,
+            count: 0,
+        }
     }
 
     // One gate.
     pub fn push(&mut self, kind: GateKind, a: u8, b: u8)
-        requires { Room self.old (gate (number_of kind) a b ∷ []) }
-        ensures { Stored self.old self.new (gate (number_of kind) a b ∷ []) }
+        requires { Room self.old (gate (kind_byte kind) a b ∷ []) }
+        ensures { Stored self.old self.new (gate (kind_byte kind) a b ∷ []) }
     {
         let i = GATE_BYTES * self.count;
         let gates = &mut *self.gates;
@@ -52,15 +58,12 @@ impl<'a> Writer<'a> {
     }
 
     // A CNOT into wire t from each wire that q names.
-    pub fn push_cnots(&mut self, n: usize, q: Parity, t: u8)
-        requires { (n ≤ max_wires) × Room self.old (cnots n q t) }
-        ensures { Stored self.old self.new (cnots n q t) }
+    pub fn push_cnots(&mut self, q: Parity, t: u8)
+        requires { Room self.old (cnots self.old.wires.count q t) }
+        ensures { Stored self.old self.new (cnots self.old.wires.count q t) }
     {
-        // No `for`: it goes from one wire of q to the next, with no turn for those between.
-        let mut i = next_wire(q, 0);
-        while i < n {
+        for i in BitsOf::new(u64::from(q), self.wires.count) {
             self.push(GateKind::Cnot, i as u8, t);
-            i = next_wire(q, i + 1);
         }
     }
 }

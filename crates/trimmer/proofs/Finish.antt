@@ -1,9 +1,10 @@
 -- The trim of an accepted circuit, from what each of its steps leaves.
 use mathlib.Core.List.{List}
 use mathlib.Core.Path.{ap, ap₂, subst, sym, ◌∙◌, ◌≡◌}
-use Prim.Native.Nat.{◌*◌, ℕ}
+use Prim.Native.Nat.{◌*◌, ◌≤◌, ℕ}
 use lib.ListN.{length}
 use Rattle.circuit.proofs.Sound.{read_sound}
+use Rattle.circuit.specs.Faults.{AllWellFormed}
 use Rattle.circuit.specs.Gate.{Gate, gates_of, t_gates}
 use Rattle.circuit.specs.Lent.{KeptFrom, front_gates, read_bytes, reading_lent}
 use Rattle.circuit.specs.Limits.{gate_bytes, max_members, max_wires, move_cells, parities}
@@ -11,6 +12,7 @@ use Rattle.circuit.specs.OddSet.{member_count, odd_set}
 use Rattle.circuit.specs.Read.{Reading, read}
 use Rattle.circuit.specs.Sound.{SoundReading, SoundRows, SoundWeights}
 use Rattle.circuit.specs.TableFaults.{Marked}
+use Rattle.judges.specs.declared.faults.FormedList.{FormedList}
 use Rattle.moves.proofs.Laws.{limits_suffice}
 use Rattle.moves.specs.Log.{logged}
 use Rattle.moves.specs.Replay.{Replays, SmallestEach}
@@ -25,16 +27,18 @@ use Rattle.trimmed.specs.declared.Counts.{Counts}
 use Rattle.written.specs.Chosen.{chosen}
 use Rattle.written.specs.Faults.{Writable}
 use Rattle.written.specs.Wrote.{Wrote}
-use Rattle.trimmer.specs.Entry.{ChosenFor, DoneWith, Trimmable, WritesFor, to_write}
+use Rattle.trimmer.specs.Entry.{ChosenFor, DoneWith, TrimInto, WritesFor, to_write}
 
 -- C is read: its weights and rows
 pub record ReadC (n : ℕ) (bytes out log w rows : List ℕ) : Type 0 where
-  pub trimmable : Trimmable n bytes out log
+  pub few : n ≤ max_wires
+  pub formed : AllWellFormed n (gates_of bytes)
+  pub lent : TrimInto n out log
   pub reads : reading_lent w rows ≡ read_bytes n bytes
 
-pub read_c : {n : ℕ} {bytes out log w rows : List ℕ} → Trimmable n bytes out log → reading_lent w rows ≡ read_bytes n bytes
-    → ReadC n bytes out log w rows
-read_c t e = record { trimmable = t; reads = e }
+pub read_c : {out log w rows : List ℕ} (c : FormedList) → TrimInto c.wires.count out log
+    → reading_lent w rows ≡ read_bytes c.wires.count c.gates.now → ReadC c.wires.count c.gates.now out log w rows
+read_c c t e = record { few = c.wires.few; formed = c.formed; lent = t; reads = e }
 
 module _ {n : ℕ} {bytes out log w rows : List ℕ} (c : ReadC n bytes out log w rows) where
   w_is : w ≡ weights_of n (gates_of bytes)
@@ -44,7 +48,7 @@ module _ {n : ℕ} {bytes out log w rows : List ℕ} (c : ReadC n bytes out log 
   rows_is = ap (λ (r : Reading). r.rows) c.reads
 
   sound : SoundReading max_wires n (read_bytes n bytes)
-  sound = read_sound max_wires n c.trimmable.accepted.few (gates_of bytes) c.trimmable.accepted.formed
+  sound = read_sound max_wires n c.few (gates_of bytes) c.formed
 
   pub sound_weights : SoundWeights parities n w
   sound_weights = subst (λ (x : List ℕ). SoundWeights parities n x) (sym w_is) sound.weights
@@ -68,8 +72,8 @@ module _ {n : ℕ} {bytes out log w rows first : List ℕ} (c : MarkedC n bytes 
   pub marked_first : Marked n first
   marked_first =
       record {
-        some = c.read.trimmable.accepted.some;
-        few = c.read.trimmable.accepted.few;
+        some = c.read.lent.some;
+        few = c.read.few;
         sound = rw c.odd (odd_set_is_sound parities n w (sound_weights c.read));
       }
 
@@ -85,7 +89,7 @@ moved_c c all = record { marked = c; all = all }
 module _ {n : ℕ} {bytes out log w rows first : List ℕ} {k : ℕ} {last log' : List ℕ}
     (c : MovedC n bytes out log w rows first k last log') where
   turn : Turn n first log k last log'
-  turn = record { first = marked_first c.marked; room = c.marked.read.trimmable.log_room; made = c.all.made }
+  turn = record { first = marked_first c.marked; room = c.marked.read.lent.log_room; made = c.all.made }
 
   pub marked_last : Marked n last
   marked_last = still_marked turn
@@ -121,7 +125,7 @@ module _ {n : ℕ} {bytes out log w rows first : List ℕ} {k : ℕ} {last log' 
       record {
         some = (marked_last c.moved).some;
         few = (marked_last c.moved).few;
-        room = reading_c.trimmable.out_room;
+        room = reading_c.lent.out_room;
         weights_sound =
             rw c.new_is
             (new_weights_sound parities n (limits_suffice n (marked_last c.moved).few).0 w last (marked_last c.moved).sound);
@@ -135,14 +139,13 @@ module _ {n : ℕ} {bytes out log w rows first : List ℕ} {k : ℕ} {last log' 
   finish {out'} {count} wrote counts tin odd tout moves gates =
       let D : List Gate = front_gates count out' in
       let list = wrote.list in
-      let accepted = reading_c.trimmable.accepted in
       let w_d : weights_of n D ≡ new_weights parities n (weights_of n C) last =
       ap (λ (r : Reading). r.weights) list.reads ∙ c.new_is ∙ ap (λ (x : List ℕ). new_weights parities n x last) (w_is reading_c) in
       let r_d : (read max_wires n D).rows ≡ (read max_wires n C).rows = ap (λ (r : Reading). r.rows) list.reads ∙ rows_is reading_c in
       let t_d : t_gates D ≡ member_count (odd_set_of n D) =
       list.t_counted ∙ ap (λ (r : Reading). member_count (odd_set r.weights)) (sym list.reads) in
       let all : Trimmed n C D log' counts =
-      whole n accepted.few C accepted.formed log' k last (replayed c.moved) (smallest c.moved) c.moved.all.none
+      whole n reading_c.few C reading_c.formed log' k last (replayed c.moved) (smallest c.moved) c.moved.all.none
       D list.formed w_d r_d t_d
       counts tin (odd ∙ ap member_count (first_is c.moved.marked)) tout moves (gates ∙ wrote.counted) in
       let new_c : new ≡ new_weights parities n (weights_of n C) (odd_set_of n D) =

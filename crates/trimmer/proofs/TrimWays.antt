@@ -1,18 +1,13 @@
 -- One law for each way out of the entry `trim`, by what the judge of the call found.
 use mathlib.Core.List.{List}
-use mathlib.Core.Path.{refl, sym, ◌∙◌, ◌≡◌}
+use mathlib.Core.Path.{sym, ◌≡◌}
 use Prim.Native.Nat.{ℕ}
 use lib.ListN.{length}
-use Rattle.std.specs.Prelude.{Err, Ok}
 use Rattle.circuit.proofs.Judging.{list_done, or_pass, short_pass}
-use Rattle.circuit.proofs.Results.{refused_keeps}
 use Rattle.circuit.specs.Faults.{short_fault}
 use Rattle.circuit.specs.Limits.{log_cells, write_bytes}
 use Rattle.circuit.specs.Replies.{Done}
-use Rattle.circuit.specs.Told.{told}
-use Rattle.circuit.specs.declared.faults.Refusal.{Refusal}
-use Rattle.trimmed.specs.declared.Counts.{Counts}
-use Rattle.trimmer.specs.Entry.{DoneWith, TrimLeft, TrimList, Trimmable, no_counts, trim_lent, verdict}
+use Rattle.trimmer.specs.Entry.{Trimmable, trim_lent, verdict}
 
 module _ {n : ℕ} {g out log : List ℕ} where
   pub may_trim : Done ≡ verdict n g (length out) (length log) → Trimmable n g out log

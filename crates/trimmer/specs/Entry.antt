@@ -41,6 +41,12 @@ pub record Trimmable (n : ℕ) (bytes out log : List ℕ) : Type 0 where
   pub out_room : write_bytes ≤ length out
   pub log_room : log_cells ≤ length log
 
+-- some wire, and outputs that are long enough
+pub record TrimInto (n : ℕ) (out log : List ℕ) : Type 0 where
+  pub some : 1 ≤ n
+  pub out_room : write_bytes ≤ length out
+  pub log_room : log_cells ≤ length log
+
 -- what D is written for: the new weights and the rows of C
 abbrev pub to_write : ℕ → List Gate → List Gate → Reading
 to_write n C D = with_weights (new_weights parities n (weights_of n C) (odd_set_of n D)) (read max_wires n C)

@@ -4,7 +4,7 @@
 
 #![tactic(auto)]
 
-ghost use Rattle.trimmer.specs.Entry.{DoneWith, TrimList, Trimmable};
+ghost use Rattle.trimmer.specs.Entry.{DoneWith, TrimInto, TrimList};
 
 pub mod counting;
 pub mod faults;
@@ -13,7 +13,7 @@ use circuit::faults::Refusal;
 use circuit::limits::{Mark, MoveCell, TABLE_BYTES, Weight};
 use counting::members_of;
 use faults::check_trim_lent;
-use judges::faults::check_list;
+use judges::faults::{FormedList, check_list};
 use moving::make_moves;
 use reader::reading::{ListRead, read_gates};
 use rests::weighing::put_new_weights;
@@ -25,28 +25,29 @@ use weights::put_odd_set;
 pub fn trim(n: usize, gates: &[u8], out: &mut [u8], log: &mut [MoveCell]) -> Result<Counts, Refusal>
     ensures { TrimList n gates.now out.old log.old out.new log.new result }
 {
-    check_list(n, gates, check_trim_lent(out.len(), log.len()))?;
-    Ok(trim_accepted(n, gates, out, log))
+    let list = check_list(n, gates, check_trim_lent(out.len(), log.len()))?;
+    Ok(trim_accepted(&list, out, log))
 }
 
 // The trim of an accepted circuit.
-fn trim_accepted(n: usize, gates: &[u8], out: &mut [u8], log: &mut [MoveCell]) -> Counts
-    requires { Trimmable n gates.now out.old log.old }
-    ensures { DoneWith n gates.now out.old log.old out.new log.new result }
+fn trim_accepted(list: &FormedList<'_>, out: &mut [u8], log: &mut [MoveCell]) -> Counts
+    requires { TrimInto list.now.wires.count out.old log.old }
+    ensures { DoneWith list.now.wires.count list.now.gates.now out.old log.old out.new log.new result }
 {
+    let wires = list.wires;
     let ListRead {
         weights,
         rows,
         tcount: tin,
-    } = read_gates(n, gates);
+    } = read_gates(list);
     let mut marks = [0 as Mark; TABLE_BYTES];
     put_odd_set(&weights, &mut marks);
-    let odd = members_of(n, &marks);
-    let moves = make_moves(n, &mut marks, log);
-    let tout = members_of(n, &marks);
+    let odd = members_of(wires, &marks);
+    let moves = make_moves(wires, &mut marks, log);
+    let tout = members_of(wires, &marks);
     let mut new = [0 as Weight; TABLE_BYTES];
-    put_new_weights(n, &weights, &marks, &mut new);
-    let gates = write_sound(n, &new, &rows, out);
+    put_new_weights(wires, &weights, &marks, &mut new);
+    let gates = write_sound(wires, &new, &rows, out);
     Counts {
         tin,
         odd,

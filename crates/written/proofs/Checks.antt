@@ -8,7 +8,7 @@ use native.Mathlib.Nat.{mul-le-mul}
 use native.Mathlib.Omega.{arith}
 use lib.Pow.{pow_mono}
 use Rattle.circuit.proofs.Judging.{or_first, or_pass, or_second, or_well, short_pass, short_well}
-use Rattle.circuit.proofs.TableRule.{call_passes, weights_passes}
+use Rattle.circuit.proofs.TableRule.{weights_passes}
 use Rattle.circuit.specs.Faults.{or_else, short_fault}
 use Rattle.circuit.specs.Limits.{max_wires, max_written_gates, row_cells, write_bytes, written_gates}
 use Rattle.circuit.specs.TableFaults.{call_fault, weights_fault}
@@ -38,9 +38,6 @@ module _ (n : ℕ) (w rows : List ℕ) (gates : ℕ) where
     pub call_refuses : f ≢ 0 → f ≡ write_fault n w rows gates
     unfolding write_fault
     call_refuses h = or_first f (rows_fault row_cells n rows) h ∙ ap (λ (x : ℕ). or_else x (rows_fault row_cells n rows)) e
-
-    pub wires_few : f ≡ 0 → n ≤ max_wires
-    wires_few z = (call_passes n lent (weights_fault n w) (sym ef ∙ z)).1
 
     pub rows_decide : f ≡ 0 → rows_fault row_cells n rows ≡ write_fault n w rows gates
     unfolding write_fault

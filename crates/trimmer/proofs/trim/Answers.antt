@@ -4,4 +4,6 @@ use Rattle.trimmer.proofs.TrimWays.{may_trim}
 use Rattle.trimmer.proofs.trim.Goals as goal
 
 pub trim_accepted-requires : goal.trim_accepted-requires
-trim_accepted-requires c = may_trim (search rules)
+trim_accepted-requires c =
+    let may = may_trim {n = c.args.n} {g = c.args.gates.now} {out = c.args.out.now} {log = c.args.log.now} (search rules) in
+    record { some = rw c.in_ok-list.ensures.same.0 may.accepted.some; out_room = may.out_room; log_room = may.log_room }

@@ -5,4 +5,4 @@ use Rattle.written.specs.Faults.{beyond_fault}
 use Rattle.synth.proofs.faults.check_beyond.Given as goal
 
 abbrev pub invariant-loop-i : goal.invariant-loop-i
-invariant-loop-i l = beyond_fault l.n l.i (drop l.i l.rows) ≡ beyond_fault l.n 0 l.rows
+invariant-loop-i l = beyond_fault l.wires.count l.i (drop l.i l.rows) ≡ beyond_fault l.wires.count 0 l.rows

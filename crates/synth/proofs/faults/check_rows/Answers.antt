@@ -17,23 +17,23 @@ returns-in_err-check_beyond-clause-fault c =
     let long = c.in-Some.ensures.cases in
     let f : fault_told c.from_residual.result ≡ number c.in_err-check_beyond.field-0.0 = search rules in
     f
-    ∙ rows_beyond row_cells c.args.n c.args.rows.now long.long _
-    (c.in_err-check_beyond.ensures ∙ ap (beyond_fault c.args.n 0) long.same) (numbered c.in_err-check_beyond.field-0.0)
+    ∙ rows_beyond row_cells c.args.wires.count c.args.rows.now long.long _
+    (c.in_err-check_beyond.ensures ∙ ap (beyond_fault c.args.wires.count 0) long.same) (numbered c.in_err-check_beyond.field-0.0)
 
 pub check_dependence-requires : goal.check_dependence-requires
-check_dependence-requires c = (c.requires, shaped row_cells _ _ (search rules) (sym c.in_ok-check_beyond.ensures))
+check_dependence-requires c = shaped row_cells _ _ (search rules) (sym c.in_ok-check_beyond.ensures)
 
 pub returns-in_err-check_dependence-clause-fault : goal.returns-in_err-check_dependence-clause-fault
 returns-in_err-check_dependence-clause-fault c =
     let long = c.in-Some.ensures.cases in
     let f : fault_told c.from_residual-in_err-check_dependence.result ≡ number c.in_err-check_dependence.field-0.0 = search rules in
-    f ∙ c.in_err-check_dependence.ensures ∙ ap (cancel_fault (2 ^ c.args.n - 1)) long.same
-    ∙ rows_cancel row_cells c.args.n c.args.rows.now long.long _
-    (c.in_ok-check_beyond.ensures ∙ ap (beyond_fault c.args.n 0) long.same) refl
+    f ∙ c.in_err-check_dependence.ensures ∙ ap (cancel_fault (2 ^ c.args.wires.count - 1)) long.same
+    ∙ rows_cancel row_cells c.args.wires.count c.args.rows.now long.long _
+    (c.in_ok-check_beyond.ensures ∙ ap (beyond_fault c.args.wires.count 0) long.same) refl
 
 pub returns-clause-fault : goal.returns-clause-fault
 returns-clause-fault c =
     let long = c.in-Some.ensures.cases in
-    c.in_ok-check_dependence.ensures ∙ ap (cancel_fault (2 ^ c.args.n - 1)) long.same
-    ∙ rows_cancel row_cells c.args.n c.args.rows.now long.long _
-    (c.in_ok-check_beyond.ensures ∙ ap (beyond_fault c.args.n 0) long.same) refl
+    c.in_ok-check_dependence.ensures ∙ ap (cancel_fault (2 ^ c.args.wires.count - 1)) long.same
+    ∙ rows_cancel row_cells c.args.wires.count c.args.rows.now long.long _
+    (c.in_ok-check_beyond.ensures ∙ ap (beyond_fault c.args.wires.count 0) long.same) refl

@@ -9,6 +9,6 @@ use Rattle.synth.proofs.masks.pivot_of.Goals as goal
 
 pub returns : goal.returns
 returns c =
-    pivot_found c.args.n c.args.r c.args.m c.requires.1 _
+    pivot_found c.args.wires.count c.args.r c.args.m c.requires _
     (first_from_Range _ _ _ _ (λ i. bit c.args.m i ≡ 1) (λ i. bit c.args.m i ≢ 1) c.find.ensures.ran (λ x q k. search rules)
     (λ x q k. (search rules, search rules)))

@@ -14,17 +14,15 @@ lowest-t-requires c =
 
 pub push_cnots-requires : goal.push_cnots-requires
 push_cnots-requires c =
-    (c.requires.few, parity-room c.requires (omega arith) c.lowest-t.ensures.0 c.unit.ensures)
+    parity-room c.requires (omega arith) c.lowest-t.ensures.0 c.unit.ensures
 
 pub spell_out-requires : goal.spell_out-requires
 spell_out-requires c =
     (c.requires.small, spell_room c.requires (omega arith) c.lowest-t.ensures.0 c.unit.ensures c.push_cnots.ensures)
 
 pub push_cnots-requires-2 : goal.push_cnots-requires-2
-push_cnots-requires-2 c = (
-  c.requires.few,
-  undo_room c.requires (omega arith) c.lowest-t.ensures.0 c.unit.ensures c.push_cnots.ensures c.spell_out.ensures,
-)
+push_cnots-requires-2 c =
+    undo_room c.requires (omega arith) c.lowest-t.ensures.0 c.unit.ensures c.push_cnots.ensures c.spell_out.ensures
 
 pub returns : goal.returns
 returns c =

@@ -7,10 +7,10 @@ pub loop-p-init : goal.loop-p-init
 loop-p-init c = phases_first _ _ _
 
 pub write_parity-requires : goal.write_parity-requires
-write_parity-requires c = parity-ready _ _ _ c.requires c.loop-p.invariant c.loop-p-test.true
+write_parity-requires c = parity-ready _ _ c.parities.ensures.0 c.requires c.loop-p.invariant c.loop-p-test.true
 
 pub loop-p-preserved : goal.loop-p-preserved
-loop-p-preserved c = phases_turn _ _ _ c.requires c.loop-p.invariant c.loop-p-test.true c.write_parity.ensures
+loop-p-preserved c = phases_turn _ _ c.parities.ensures.0 c.requires c.loop-p.invariant c.loop-p-test.true c.write_parity.ensures
 
 pub returns : goal.returns
-returns c = phases_last _ _ _ c.requires c.loop-p.invariant (omega arith)
+returns c = phases_last _ _ c.parities.ensures.0 c.requires c.loop-p.invariant (omega arith)

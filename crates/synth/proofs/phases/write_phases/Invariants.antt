@@ -5,4 +5,4 @@ use Rattle.written.specs.Writing.{write_phases}
 use Rattle.synth.proofs.phases.write_phases.Given as goal
 
 abbrev pub invariant-loop-p : goal.invariant-loop-p
-invariant-loop-p l = Stored l.initial.to l.to (write_phases max_wires l.n l.weights l.p)
+invariant-loop-p l = Stored l.initial.to l.to (write_phases max_wires l.initial.to.wires.count l.weights l.p)

@@ -1,33 +1,27 @@
--- The gates of the rows below r are stored, and the masks say what is left.
-use native.Mathlib.Omega.{arith}
-use Rattle.synth.proofs.RowTurns.{lack_room, pivot_is, pivot_there, rows_first, rows_last, rows_next, surplus_room}
+-- The gates of the rows solved are stored, and the masks say what is left.
+use Rattle.synth.proofs.RowTurns.{lack_room, pivot_there, rows_first, rows_last, rows_next, surplus_room}
 use Rattle.synth.proofs.rows.write_rows.Goals as goal
 
-pub loop-r-init : goal.loop-r-init
-loop-r-init c = rows_first c.requires
+pub loop-row-init : goal.loop-row-init
+loop-row-init c =
+    let new = c.new-row-items.ensures in
+    rw c.into_iter-row-iterator.ensures.into_iter_gives (rows_first c.requires new.wires new.masks new.r)
 
-pub unwrap-b-requires : goal.unwrap-b-requires
-unwrap-b-requires c = pivot_there c.requires (omega arith) c.loop-r.invariant _ c.pivot_of.ensures
-
-pub row_step-step-requires : goal.row_step-step-requires
-row_step-step-requires c =
-    let b = pivot_is c.requires (omega arith) c.loop-r.invariant _ c.pivot_of.ensures c.unwrap-b.ensures in
-    (omega (arith, c.requires.few), omega (arith, c.requires.few, b.0))
+pub unwrap-step-requires : goal.unwrap-step-requires
+unwrap-step-requires c = pivot_there c.loop-row.invariant c.requires _ _ c.in-Some.ensures.steps
 
 pub push_cnots-requires : goal.push_cnots-requires
 push_cnots-requires c =
-    let b = pivot_is c.requires (omega arith) c.loop-r.invariant _ c.pivot_of.ensures c.unwrap-b.ensures in
-    (c.requires.few, lack_room c.requires (omega arith) c.loop-r.invariant b c.row_step-step.ensures)
+    lack_room c.loop-row.invariant c.requires (rw c.unwrap-step.ensures at c.in-Some.ensures.steps)
 
-pub push_cnots-requires-in-loop-r : goal.push_cnots-requires-in-loop-r
-push_cnots-requires-in-loop-r c =
-    let b = pivot_is c.requires (omega arith) c.loop-r.invariant _ c.pivot_of.ensures c.unwrap-b.ensures in
-    (c.requires.few, surplus_room c.requires (omega arith) c.loop-r.invariant b c.row_step-step.ensures c.push_cnots.ensures)
+pub push_cnots-requires-in-loop-row : goal.push_cnots-requires-in-loop-row
+push_cnots-requires-in-loop-row c =
+    surplus_room c.loop-row.invariant c.requires (rw c.unwrap-step.ensures at c.in-Some.ensures.steps) c.push_cnots.ensures
 
-pub loop-r-preserved : goal.loop-r-preserved
-loop-r-preserved c =
-    let b = pivot_is c.requires (omega arith) c.loop-r.invariant _ c.pivot_of.ensures c.unwrap-b.ensures in
-    rows_next c.requires (omega arith) c.loop-r.invariant b c.row_step-step.ensures c.push_cnots.ensures c.push_cnots-in-loop-r.ensures
+pub loop-row-preserved : goal.loop-row-preserved
+loop-row-preserved c =
+    rows_next c.loop-row.invariant c.requires (rw c.unwrap-step.ensures at c.in-Some.ensures.steps) c.push_cnots.ensures
+    c.push_cnots-in-loop-row.ensures
 
 pub returns : goal.returns
-returns c = rows_last (omega arith) c.loop-r.invariant
+returns c = rows_last c.loop-row.invariant c.in-None.ensures.steps.0

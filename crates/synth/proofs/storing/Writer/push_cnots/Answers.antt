@@ -1,19 +1,15 @@
--- The CNOTs from the wires passed are stored, and i is the next wire that q names.
-use native.Mathlib.Omega.{arith}
+-- The CNOTs from the wires passed are stored.
 use Rattle.synth.proofs.PhaseTurns.{cnots_end, cnots_first, cnots_room, cnots_turn}
 use Rattle.synth.proofs.storing.Writer.push_cnots.Goals as goal
 
 pub loop-i-init : goal.loop-i-init
-loop-i-init c = cnots_first _ _ _ _ c.next_wire-i.ensures
+loop-i-init c = rw c.into_iter-i-iterator.ensures.into_iter_gives (cnots_first _ _ _ _ c.from.ensures c.new-i-items.ensures)
 
 pub push-requires : goal.push-requires
-push-requires c = cnots_room c.loop-i.invariant c.requires.0 (omega arith) c.requires.1
-
-pub loop-i-smaller : goal.loop-i-smaller
-loop-i-smaller c = omega (arith, c.next_wire-i-in-loop-i.ensures.from)
+push-requires c = cnots_room c.loop-i.invariant c.in-Some.ensures.steps c.requires
 
 pub loop-i-preserved : goal.loop-i-preserved
-loop-i-preserved c = cnots_turn c.loop-i.invariant c.requires.0 (omega arith) c.push.ensures c.next_wire-i-in-loop-i.ensures
+loop-i-preserved c = cnots_turn c.loop-i.invariant c.in-Some.ensures.steps c.push.ensures
 
 pub returns : goal.returns
-returns c = cnots_end c.loop-i.invariant (omega arith)
+returns c = cnots_end c.loop-i.invariant c.in-None.ensures.steps
