@@ -14,11 +14,11 @@ ghost use Rattle.answer.specs.Entry.{AnswerText, WritesPrinted};
 ghost use Rattle.answer.specs.Printed.{trim_lines};
 
 use circuit::faults::Refusal;
-use circuit::limits::{GATE_BYTES, LOG_CELLS, MAX_LIST_BYTES, MoveCell, WRITE_BYTES};
+use circuit::limits::{LOG_CELLS, MAX_LIST_BYTES, MoveCell, WRITE_BYTES};
 use judges::faults::check_room;
 use lines::{counts_line, put, put_gates, refused_line, wires_line};
 use text::limits::REPLY_BYTES;
-use text::read_text;
+use text::{Circuit, read_text};
 use trimmed::Counts;
 use trimmer::trim;
 
@@ -38,7 +38,7 @@ fn put_reply(text: &[u8], out: &mut [u8]) -> usize
 {
     let mut gates = [0u8; MAX_LIST_BYTES];
     match read_text(text, &mut gates) {
-        Ok(read) => put_circuit(read.wires, &gates[..GATE_BYTES * read.gates], out),
+        Ok(read) => put_circuit(read.wires, read.list(&gates), out),
         Err(refusal) => put(&refused_line(refusal), out),
     }
 }
@@ -51,12 +51,20 @@ fn put_circuit(n: usize, gates: &[u8], out: &mut [u8]) -> usize
     let mut list = [0u8; WRITE_BYTES];
     let mut log = [0 as MoveCell; LOG_CELLS];
     match trim(n, gates, &mut list, &mut log) {
-        Ok(counts) => put_trimmed(n, counts, &list[..GATE_BYTES * counts.gates], out),
+        Ok(counts) => {
+            // D stands at the front of the list.
+            let trimmed = Circuit {
+                wires: n,
+                gates: counts.gates,
+            };
+            put_trimmed(n, counts, trimmed.list(&list), out)
+        }
         Err(of_gate) => put(&refused_line(of_gate), out),
     }
 }
 
-// n, the counts, the gates.
+// n, the counts, the gates. The places are counted here: a struct of what is lent and how much of it is written would take three methods,
+// each with a contract, for these three lines.
 fn put_trimmed(n: usize, counts: Counts, gates: &[u8], out: &mut [u8]) -> usize
     requires { wires_line_bytes + counts_line_bytes + gate_line_bytes * (length gates.now / gate_bytes) ≤ length out.old }
     ensures { Writes out.old 0 (trim_lines n counts (gates_of gates.now)) out.new result }

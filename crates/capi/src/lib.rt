@@ -15,7 +15,7 @@ ghost use Rattle.text.specs.Entry as read_text;
 ghost use Rattle.answer.specs.Entry as answers;
 ghost use Rattle.capi.specs.InC.{InC, CompareInC, CarryInC, FindInC, WriteInC, TrimInC, TextInC, AnswerInC, MoveInC};
 
-use circuit::limits::{Coefficient, MOVE_CELLS, Mark, MoveCell, Parity, Weight};
+use circuit::limits::{Coefficient, Mark, MoveCell, Parity, Weight};
 use creply::{
     SulmedraAnswered, SulmedraCarried, SulmedraCompared, SulmedraFound, SulmedraPart,
     SulmedraReply, SulmedraText, SulmedraTrimmed, SulmedraWritten,
@@ -140,16 +140,10 @@ pub extern "C" fn sulmedra_trim(
 pub extern "C" fn sulmedra_move_at(log: &[MoveCell], k: usize) -> SulmedraPart
     ensures { MoveInC log.now k result.start result.length }
 {
-    if k < log.len() / MOVE_CELLS {
-        SulmedraPart {
-            start: (MOVE_CELLS * k) as u64,
-            length: MOVE_CELLS as u64,
-        }
-    } else {
-        SulmedraPart {
-            start: 0,
-            length: 0,
-        }
+    let length = carry::move_at(log, k).len();
+    SulmedraPart {
+        start: (k * length) as u64,
+        length: length as u64,
     }
 }
 

@@ -1,11 +1,9 @@
 // Replies as C has them: a struct of numbers for each, and what an entry's reply comes to in it. The fault's number, 0 for none, and its
-// place come first in each; a part of a log has no fault. C gives each reply a name and fields of its own, so that three structs of a
-// number beside the fault stay three. Internal: `capi` exports the functions that give these.
+// place come first in each; a part of a log has no fault. C gives each reply a name and fields of its own, so that the five structs of one
+// more number beside the fault's two stay five. Internal: `capi` exports the functions that give these.
 #![tactic(auto)]
 
 ghost use Rattle.std.specs.Prelude.{◌≡◌};
-ghost use Rattle.circuit.specs.Replies.{number_of, place_of};
-ghost use Rattle.circuit.specs.Told.{told};
 ghost use Rattle.compare.specs.Entry as comparing;
 ghost use Rattle.carry.specs.Entry as carrying;
 ghost use Rattle.finder.specs.Entry as find;
@@ -13,6 +11,7 @@ ghost use Rattle.synth.specs.Entry as write;
 ghost use Rattle.trimmer.specs.Entry as trim;
 ghost use Rattle.text.specs.Entry as read_text;
 ghost use Rattle.answer.specs.Entry as answers;
+ghost use Rattle.creply.specs.Fault.{FaultInC};
 
 use circuit::faults::Refusal;
 use compare::Compared;
@@ -105,16 +104,16 @@ pub struct SulmedraAnswered {
 
 // The fault's number and its place, both 0 where there is none.
 fn fault_in_c<T>(reply: &Result<T, Refusal>) -> (u64, u64)
-    ensures { (result.0 ≡ number_of (told reply.now)) × (result.1 ≡ place_of (told reply.now)) }
+    ensures { FaultInC reply.now result.0 result.1 }
 {
     match reply {
         Ok(_) => (0, 0),
-        Err(refusal) => (refusal.fault.number() as u64, refusal.place as u64),
+        Err(refusal) => (u64::from(u8::from(refusal.fault)), refusal.place as u64),
     }
 }
 
 impl From<Result<(), Refusal>> for SulmedraReply {
-    ghost from_gives = { λ reply c. (c.number ≡ number_of (told reply)) × (c.place ≡ place_of (told reply)) };
+    ghost from_gives = { λ reply c. FaultInC reply c.number c.place };
 
     fn from(reply: Result<(), Refusal>) -> SulmedraReply {
         let (number, place) = fault_in_c(&reply);
@@ -123,22 +122,20 @@ impl From<Result<(), Refusal>> for SulmedraReply {
 }
 
 impl From<Result<Compared, Refusal>> for SulmedraCompared {
-    ghost from_gives = { λ reply c. (c.number ≡ number_of (told reply)) × (c.place ≡ place_of (told reply))
-        × (c.same ≡ comparing.same_of reply) };
+    ghost from_gives = { λ reply c. FaultInC reply c.number c.place × (c.same ≡ comparing.same_of reply) };
 
     fn from(reply: Result<Compared, Refusal>) -> SulmedraCompared {
         let (number, place) = fault_in_c(&reply);
         SulmedraCompared {
             number,
             place,
-            same: (reply == Ok(Compared::Same)) as u64,
+            same: u64::from(reply == Ok(Compared::Same)),
         }
     }
 }
 
 impl From<Result<usize, Refusal>> for SulmedraCarried {
-    ghost from_gives = { λ reply c. (c.number ≡ number_of (told reply)) × (c.place ≡ place_of (told reply))
-        × (c.differ ≡ carrying.differ_of reply) };
+    ghost from_gives = { λ reply c. FaultInC reply c.number c.place × (c.differ ≡ carrying.differ_of reply) };
 
     fn from(reply: Result<usize, Refusal>) -> SulmedraCarried {
         let (number, place) = fault_in_c(&reply);
@@ -151,22 +148,20 @@ impl From<Result<usize, Refusal>> for SulmedraCarried {
 }
 
 impl From<Result<Sought, Refusal>> for SulmedraFound {
-    ghost from_gives = { λ reply c. (c.number ≡ number_of (told reply)) × (c.place ≡ place_of (told reply))
-        × (c.found ≡ find.found_of reply) };
+    ghost from_gives = { λ reply c. FaultInC reply c.number c.place × (c.found ≡ find.found_of reply) };
 
     fn from(reply: Result<Sought, Refusal>) -> SulmedraFound {
         let (number, place) = fault_in_c(&reply);
         SulmedraFound {
             number,
             place,
-            found: (reply == Ok(Sought::Found)) as u64,
+            found: u64::from(reply == Ok(Sought::Found)),
         }
     }
 }
 
 impl From<Result<usize, Refusal>> for SulmedraWritten {
-    ghost from_gives = { λ reply c. (c.number ≡ number_of (told reply)) × (c.place ≡ place_of (told reply))
-        × (c.gates ≡ write.count_of reply) };
+    ghost from_gives = { λ reply c. FaultInC reply c.number c.place × (c.gates ≡ write.count_of reply) };
 
     fn from(reply: Result<usize, Refusal>) -> SulmedraWritten {
         let (number, place) = fault_in_c(&reply);
@@ -179,7 +174,7 @@ impl From<Result<usize, Refusal>> for SulmedraWritten {
 }
 
 impl From<Result<Counts, Refusal>> for SulmedraTrimmed {
-    ghost from_gives = { λ reply c. (c.number ≡ number_of (told reply)) × (c.place ≡ place_of (told reply))
+    ghost from_gives = { λ reply c. FaultInC reply c.number c.place
         × (c.tin ≡ (trim.counts_of reply).tin) × (c.odd ≡ (trim.counts_of reply).odd) × (c.tout ≡ (trim.counts_of reply).tout)
         × (c.moves ≡ (trim.counts_of reply).moves) × (c.gates ≡ (trim.counts_of reply).gates) };
 
@@ -199,7 +194,7 @@ impl From<Result<Counts, Refusal>> for SulmedraTrimmed {
 }
 
 impl From<Result<Circuit, Refusal>> for SulmedraText {
-    ghost from_gives = { λ reply c. (c.number ≡ number_of (told reply)) × (c.place ≡ place_of (told reply))
+    ghost from_gives = { λ reply c. FaultInC reply c.number c.place
         × (c.wires ≡ read_text.wires_of reply) × (c.gates ≡ read_text.count_of reply) };
 
     fn from(reply: Result<Circuit, Refusal>) -> SulmedraText {
@@ -215,8 +210,7 @@ impl From<Result<Circuit, Refusal>> for SulmedraText {
 }
 
 impl From<Result<usize, Refusal>> for SulmedraAnswered {
-    ghost from_gives = { λ reply c. (c.number ≡ number_of (told reply)) × (c.place ≡ place_of (told reply))
-        × (c.bytes ≡ answers.bytes_written reply) };
+    ghost from_gives = { λ reply c. FaultInC reply c.number c.place × (c.bytes ≡ answers.bytes_written reply) };
 
     fn from(reply: Result<usize, Refusal>) -> SulmedraAnswered {
         let (number, place) = fault_in_c(&reply);

@@ -1,25 +1,26 @@
 // Texts from a reader, for the programs. Which bytes the system puts into a buffer, no contract can say. No entry.
 #![tactic(auto)]
 
-ghost use Rattle.input.specs.Kept.{Takes, Within};
+ghost use Rattle.std.specs.Prelude.{◌≤◌, IfOk, length};
+ghost use Rattle.input.specs.Kept.{Takes};
 
 use std::io;
 use std::io::Read;
 
-// Reads to the end of the input, or until the buffer is full, and gives how many bytes. A read that fails is not an end: half a circuit
-// would be another circuit.
-pub fn read_input<R: Read>(from: &mut R, buf: &mut [u8]) -> io::Result<usize>
-    ensures within { Within buf.new result }
-    ensures takes { Takes (R.remaining from.old) (R.remaining from.new) buf.new result }
+// Reads to the end of the input, or until the buffer is full, and gives what was read, the first part of the buffer. A read that fails is
+// not an end: half a circuit would be another circuit.
+pub fn read_input<'a, R: Read>(from: &mut R, buf: &'a mut [u8]) -> io::Result<&'a [u8]>
+    ensures within { IfOk result (λ text. length text.now ≤ length buf.old) }
+    ensures takes { IfOk result (λ text. Takes (R.remaining from.old) (R.remaining from.new) (length buf.old) text.now) }
 {
-    // What was read is counted: it is the answer, and a slice of what is left would only stand beside it.
+    // What was read is counted: the count cuts off the answer, and a slice of what is left would only stand beside it.
     let mut done: usize = 0;
     while done < buf.len() {
         let bytes = from.read(&mut buf[done..])?;
         if bytes == 0 {
-            return Ok(done);
+            break;
         }
         done += bytes;
     }
-    Ok(done)
+    Ok(&buf[..done])
 }

@@ -1,5 +1,5 @@
 // The lines that the programs write (document 01, "Text form"), each as an array; and lines written from the start of a lent output.
-// Internal: the caller lends room enough.
+// They are printed by hand, for the reason at `two_digits` of `text::hex`. Internal: the caller lends room enough.
 #![tactic(auto)]
 
 ghost use Rattle.std.specs.Prelude.{◌≡◌, ◌*◌, ◌/◌, ◌≤◌, length};
@@ -19,9 +19,11 @@ use text::limits::{COUNTS_LINE_BYTES, GATE_LINE_BYTES, REFUSED_LINE_BYTES, WIRES
 pub fn refused_line(refusal: Refusal) -> [u8; REFUSED_LINE_BYTES]
     ensures { result ≡ refused_line (number refusal.fault) refusal.place }
 {
-    let mut line = *b"refused 00 0000\n";
-    line[8..10].copy_from_slice(&two_digits(usize::from(refusal.fault.number())));
+    let mut line = [b' '; REFUSED_LINE_BYTES];
+    line[..8].copy_from_slice(b"refused ");
+    line[8..10].copy_from_slice(&two_digits(usize::from(u8::from(refusal.fault))));
     line[11..15].copy_from_slice(&four_digits(refusal.place));
+    line[15] = NEWLINE;
     line
 }
 
@@ -33,15 +35,17 @@ pub fn wires_line(n: usize) -> [u8; WIRES_LINE_BYTES]
     [a, b, NEWLINE]
 }
 
-// T in, odd set size, T out and moves, with single spaces.
+// T in, odd set size, T out and moves, with single spaces. They are four numbers, since the struct that has them is in `trimmed`, on which
+// `lines` does not stand.
 pub fn counts_line(tin: usize, odd: usize, tout: usize, moves: usize) -> [u8; COUNTS_LINE_BYTES]
     ensures { result ≡ counts_line tin odd tout moves }
 {
-    let mut line = *b"0000 0000 0000 0000\n";
+    let mut line = [b' '; COUNTS_LINE_BYTES];
     line[..4].copy_from_slice(&four_digits(tin));
     line[5..9].copy_from_slice(&four_digits(odd));
     line[10..14].copy_from_slice(&four_digits(tout));
     line[15..19].copy_from_slice(&four_digits(moves));
+    line[19] = NEWLINE;
     line
 }
 

@@ -9,6 +9,7 @@ use std::io;
 use std::io::{ErrorKind, Write};
 
 // Writes the bytes in their order: all of them, or where a write fails their first part. No bytes, no write. What fails is not tried again.
+// The library's `write_all` promises nothing of the part that was written where a write fails, and tries again where one was interrupted.
 pub fn write_all<W: Write>(to: &mut W, bytes: &[u8]) -> io::Result<()>
     ensures whole { OnOk result (Appends (W.contents to.old) (W.contents to.new) bytes.now) }
     ensures part { (k : ℕ) × Appends (W.contents to.old) (W.contents to.new) (take k bytes.now) }
@@ -36,14 +37,14 @@ pub fn fail<W: Write>(to: &mut W, what: &[u8], error: io::Error) -> io::Result<(
 {
     let mut room = [0u8; REASON_BYTES];
     let reason = reason_in(error, &mut room);
-    // Four writes: of what one `write!` puts into a writer, nothing is promised.
+    // Four writes, and no `write!`: what failed and the reason are bytes, since the name of a file need not be text.
     write_all(to, what)?;
     write_all(to, b": ")?;
     write_all(to, reason)?;
     write_all(to, b"\n")
 }
 
-// The reason, put into what is lent: the words alone, without the number behind them.
+// The reason, put into what is lent: the words alone, without the number behind them. Nothing is promised: the words are the system's.
 fn reason_in(error: io::Error, room: &mut [u8]) -> &[u8] {
     let mut rest: &mut [u8] = &mut room[..];
     let _ = write!(rest, "{error}");

@@ -4,17 +4,17 @@ use Rattle.std.specs.Prelude.{List, Option, ◌≡◌, ℕ, ◌≤◌, length, t
 use Rattle.std.specs.Io.KnownBytes.{Appends}
 use Rattle.text.specs.Limits.{refused_line_bytes}
 use Rattle.text.specs.Text.{read_text}
-use Rattle.verdict.specs.Verdicts.{VerdictOn}
+use Rattle.verdict.specs.Verdicts.{VerdictOn, bytes_of}
 use Rattle.verdict.specs.declared.Verdict.{Verdict}
 
 -- the line of a verdict on two texts, as `put_verdict` leaves it in lent bytes
 pub record LineFor (first second line : List ℕ) : Type 0 where
   pub was : List ℕ
   pub left : List ℕ
-  pub said : Verdict
+  pub said : Option Verdict
   pub room : refused_line_bytes ≤ length was
   pub verdict : VerdictOn (read_text first) (read_text second) was left said
-  pub stands : line ≡ take said.bytes left
+  pub stands : line ≡ take (bytes_of said) left
 
 -- the writer gets that line, and nothing else
 abbrev pub Says : (first second : List ℕ) → (had holds : Option (List ℕ)) → Type 0

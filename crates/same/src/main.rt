@@ -4,7 +4,7 @@
 
 ghost use Rattle.std.specs.Prelude.{◌≤◌, IfOk, OnOk, length, take, ℕ};
 ghost use Rattle.std.specs.Io.KnownBytes.{Appends};
-ghost use Rattle.input.specs.Kept.{Starts, Within};
+ghost use Rattle.input.specs.Kept.{Starts};
 ghost use Rattle.same.specs.Lines.{Says, SaysInPart};
 ghost use Rattle.same.specs.Names.{Named, prefix};
 
@@ -15,7 +15,7 @@ use std::fs::Files;
 use std::io::{Read, Write};
 use std::{fs, io};
 use text::limits::{REFUSED_LINE_BYTES, TEXT_BYTES};
-use verdict::{Texts, put_verdict};
+use verdict::{Verdict, Which, put_verdict};
 
 // The program's own name, and two files.
 const ARGUMENTS: usize = 3;
@@ -23,14 +23,14 @@ const ARGUMENTS: usize = 3;
 // What a line on standard error starts with.
 const PREFIX: &[u8] = b"same: ";
 
-const PREFIX_BYTES: usize = 6;
-
 // No name of a file that the system takes has more bytes.
 const PATH_BYTES: usize = 4096;
 
-const NAME_BYTES: usize = PREFIX_BYTES + PATH_BYTES;
+const NAME_BYTES: usize = PREFIX.len() + PATH_BYTES;
 
-// The system's numbers for these errors, whose words it has: an `ErrorKind` has others.
+// Numbers of the system's errors, so that the reason is told in the system's words, as where a file is not opened: `Invalid argument`,
+// `File name too long`, `Invalid or incomplete multibyte or wide character`. Of an `ErrorKind` the library's own words would be printed:
+// `invalid input parameter`, `invalid filename`, `invalid data`.
 const INVALID_ARGUMENT: i32 = 22;
 
 const NAME_TOO_LONG: i32 = 36;
@@ -46,14 +46,25 @@ enum Failure {
     File { argument: usize, error: io::Error },
 }
 
+// Tells on standard error what no line says. The arguments name the files.
+#[derive(Drop)]
+struct Teller<'a, R, E> {
+    rt: &'a R,
+    errors: &'a mut E,
+}
+
 fn main(rt: HostRuntime) {
     let mut errors = rt.stderr();
     if !has_arguments(&rt) {
         let _ = write_all(&mut errors, b"usage: same FIRST SECOND\n");
         return;
     }
-    if let Err(failure) = compare_files(&rt, &mut rt.stdout(), &mut errors) {
-        let _ = tell(&rt, failure, &mut errors);
+    let mut teller = Teller {
+        rt: &rt,
+        errors: &mut errors,
+    };
+    if let Err(failure) = teller.compare_files(&mut rt.stdout()) {
+        let _ = teller.tell(failure);
     }
 }
 
@@ -63,27 +74,15 @@ fn has_arguments<R: Env>(rt: &R) -> bool {
     is_there(ARGUMENTS - 1) && !is_there(ARGUMENTS)
 }
 
-// Both files are read before either text is judged. What cannot be written is told where it is.
-fn compare_files<R: Env + Files, W: Write, E: Write>(
-    rt: &R,
-    out: &mut W,
-    errors: &mut E,
-) -> Result<(), Failure> {
-    let mut first = [0u8; TEXT_BYTES];
-    let mut second = [0u8; TEXT_BYTES];
-    let a = read_file(rt, 1, &mut first)?;
-    let b = read_file(rt, 2, &mut second)?;
-    let _ = reply_to(rt, &first[..a], &second[..b], out, errors);
-    Ok(())
-}
-
 // The first bytes of the file that an argument names, as many as decide.
-fn read_file<R: Env + Files>(rt: &R, argument: usize, buf: &mut [u8]) -> Result<usize, Failure>
-    ensures { Within buf.new result }
-{
+fn read_file<'a, R: Env + Files>(
+    rt: &R,
+    argument: usize,
+    buf: &'a mut [u8],
+) -> Result<&'a [u8], Failure> {
     let mut room = [0u8; NAME_BYTES];
     let name = put_name(rt, argument, &mut room).map_err(Failure::Name)?;
-    let file = open(rt, &name[PREFIX_BYTES..]).map_err(|error| Failure::File { argument, error })?;
+    let file = open(rt, &name[PREFIX.len()..]).map_err(|error| Failure::File { argument, error })?;
     read_and_close(file, buf).map_err(|error| Failure::File { argument, error })
 }
 
@@ -94,22 +93,10 @@ fn open<R: Files>(rt: &R, name: &[u8]) -> io::Result<R::File> {
 }
 
 // The file is closed before another is opened: where standard input was closed, /dev/stdin would else be this file once more.
-fn read_and_close<F: Read + Drop>(mut file: F, buf: &mut [u8]) -> io::Result<usize>
-    ensures within { Within buf.new result }
-    ensures starts { Starts (F.remaining file) buf.new result }
+fn read_and_close<F: Read + Drop>(mut file: F, buf: &mut [u8]) -> io::Result<&[u8]>
+    ensures { IfOk result (λ text. Starts (F.remaining file) (length buf.old) text.now) }
 {
     read_input(&mut file, buf)
-}
-
-// One line: the file, and the reason.
-fn tell<R: Env, E: Write>(rt: &R, failure: Failure, errors: &mut E) -> io::Result<()> {
-    match failure {
-        Failure::Name(fault) => fail(errors, b"same: the name of a file", reason_of(fault)),
-        Failure::File { argument, error } => {
-            let mut room = [0u8; NAME_BYTES];
-            fail(errors, shown_name(rt, argument, &mut room), error)
-        }
-    }
 }
 
 // Why an argument is not taken for the name of a file. Both types are the library's, so that a `From` cannot stand here.
@@ -125,69 +112,97 @@ fn put_name<'a, R: Env>(rt: &R, argument: usize, room: &'a mut [u8]) -> Result<&
     requires { prefix ≤ length room.old }
     ensures { IfOk result (λ name. Named name.now) }
 {
-    room[..PREFIX_BYTES].copy_from_slice(PREFIX);
-    let bytes = rt.arg(argument, &mut room[PREFIX_BYTES..])?;
-    Ok(&room[..PREFIX_BYTES + bytes])
+    room[..PREFIX.len()].copy_from_slice(PREFIX);
+    let bytes = rt.arg(argument, &mut room[PREFIX.len()..])?;
+    Ok(&room[..PREFIX.len() + bytes])
 }
 
-// The same of a name that was taken before; one that is not there would be left out.
-fn shown_name<'a, R: Env>(rt: &R, argument: usize, room: &'a mut [u8]) -> &'a [u8]
-    requires { prefix ≤ length room.old }
-    ensures { Named result.now }
-{
-    put_name(rt, argument, room).unwrap_or(PREFIX)
-}
-
-// The line to standard output, where there is one; standard error names the files that it does not tell.
-fn reply_to<R: Env, W: Write, E: Write>(
-    rt: &R,
-    first: &[u8],
-    second: &[u8],
-    out: &mut W,
-    errors: &mut E,
-) -> io::Result<()>
-    ensures whole { OnOk result (Says first.now second.now (W.contents out.old) (W.contents out.new)) }
-    ensures part { SaysInPart first.now second.now (W.contents out.old) (W.contents out.new) }
-{
-    let mut line = [0u8; REFUSED_LINE_BYTES];
-    let said = put_verdict(first, second, &mut line);
-    let written = write_line(&line[..said.bytes], out, errors);
-    name_files(rt, said.named, errors);
-    written
-}
-
-fn write_line<W: Write, E: Write>(line: &[u8], out: &mut W, errors: &mut E) -> io::Result<()>
-    ensures whole { OnOk result (Appends (W.contents out.old) (W.contents out.new) line.now) }
-    ensures part { (k : ℕ) × Appends (W.contents out.old) (W.contents out.new) (take k line.now) }
-{
-    let written = write_all(out, line);
-    if let Err(error) = written {
-        let _ = fail(errors, b"same: standard output", error);
+impl<'a, R: Env, E: Write> Teller<'a, R, E> {
+    // Both files are read before either text is judged. What cannot be written is told where it is. 1 and 2 are places of the program's
+    // arguments, which the system is asked for: `Which` names the texts of a verdict, and would only become these numbers again.
+    fn compare_files<W: Write>(&mut self, out: &mut W) -> Result<(), Failure>
+    where
+        R: Files,
+    {
+        let mut first_room = [0u8; TEXT_BYTES];
+        let mut second_room = [0u8; TEXT_BYTES];
+        let first = read_file(self.rt, 1, &mut first_room)?;
+        let second = read_file(self.rt, 2, &mut second_room)?;
+        let _ = self.reply_to(first, second, out);
+        Ok(())
     }
-    written
-}
 
-// The file that is refused, or both.
-fn name_files<R: Env, E: Write>(rt: &R, named: Texts, errors: &mut E) {
-    match named {
-        Texts::Neither => {}
-        Texts::First => name_refused(rt, 1, errors),
-        Texts::Second => name_refused(rt, 2, errors),
-        Texts::Both => name_both(rt, errors),
+    // The line to standard output, where there is one; standard error names the files that it does not tell.
+    fn reply_to<W: Write>(&mut self, first: &[u8], second: &[u8], out: &mut W) -> io::Result<()>
+        ensures whole { OnOk result (Says first.now second.now (W.contents out.old) (W.contents out.new)) }
+        ensures part { SaysInPart first.now second.now (W.contents out.old) (W.contents out.new) }
+    {
+        let mut line = [0u8; REFUSED_LINE_BYTES];
+        let Some(Verdict { bytes, refused }) = put_verdict(first, second, &mut line) else {
+            self.tell_apart();
+            return Ok(());
+        };
+        let written = self.write_line(&line[..bytes], out);
+        match refused {
+            None => {}
+            Some(Which::First) => self.tell_refused(1),
+            Some(Which::Second) => self.tell_refused(2),
+        }
+        written
     }
-}
 
-fn name_refused<R: Env, E: Write>(rt: &R, argument: usize, errors: &mut E) {
-    let mut room = [0u8; NAME_BYTES];
-    let _ = write_all(errors, shown_name(rt, argument, &mut room));
-    let _ = write_all(errors, b": refused\n");
-}
+    fn write_line<W: Write>(&mut self, line: &[u8], out: &mut W) -> io::Result<()>
+        ensures whole { OnOk result (Appends (W.contents out.old) (W.contents out.new) line.now) }
+        ensures part { (k : ℕ) × Appends (W.contents out.old) (W.contents out.new) (take k line.now) }
+    {
+        let written = write_all(out, line);
+        if let Err(error) = written {
+            let _ = fail(self.errors, b"same: standard output", error);
+        }
+        written
+    }
 
-fn name_both<R: Env, E: Write>(rt: &R, errors: &mut E) {
-    let mut first = [0u8; NAME_BYTES];
-    let mut second = [0u8; NAME_BYTES];
-    let _ = write_all(errors, shown_name(rt, 1, &mut first));
-    let _ = write_all(errors, b" and ");
-    let _ = write_all(errors, &shown_name(rt, 2, &mut second)[PREFIX_BYTES..]);
-    let _ = write_all(errors, b" have different wire counts\n");
+    // One line: the file that is refused.
+    fn tell_refused(&mut self, argument: usize) {
+        let mut room = [0u8; NAME_BYTES];
+        let name = self.shown_name(argument, &mut room);
+        let _ = write_all(self.errors, name);
+        let _ = write_all(self.errors, b": refused\n");
+    }
+
+    // One line: both files.
+    fn tell_apart(&mut self) {
+        let mut first_room = [0u8; NAME_BYTES];
+        let mut second_room = [0u8; NAME_BYTES];
+        let first = self.shown_name(1, &mut first_room);
+        let second = self.shown_name(2, &mut second_room);
+        let _ = write_all(self.errors, first);
+        let _ = write_all(self.errors, b" and ");
+        let _ = write_all(self.errors, &second[PREFIX.len()..]);
+        let _ = write_all(self.errors, b" have different wire counts\n");
+    }
+
+    // One line: the file, and the reason.
+    fn tell(&mut self, failure: Failure) -> io::Result<()> {
+        match failure {
+            Failure::Name(fault) => fail(
+                self.errors,
+                b"same: the name of a file",
+                reason_of(fault),
+            ),
+            Failure::File { argument, error } => {
+                let mut room = [0u8; NAME_BYTES];
+                let name = self.shown_name(argument, &mut room);
+                fail(self.errors, name, error)
+            }
+        }
+    }
+
+    // `same: ` and the name of a file that was taken before; one that is not there would be left out.
+    fn shown_name<'b>(&self, argument: usize, room: &'b mut [u8]) -> &'b [u8]
+        requires { prefix ≤ length room.old }
+        ensures { Named result.now }
+    {
+        put_name(self.rt, argument, room).unwrap_or(PREFIX)
+    }
 }

@@ -3,14 +3,14 @@ use mathlib.Core.Bool.{Bool, false, true}
 use mathlib.Core.List.{List, [], ◌∷◌, ◌++◌, append-nil}
 use mathlib.Core.Logic.{◌≢◌}
 use mathlib.Core.Path.{◌∙◌, ◌≡◌, ap, refl, sym}
-use Prim.Native.Nat.{◌+◌, ◌<◌, ◌≤◌, min, suc, zero, ℕ}
+use Prim.Native.Nat.{◌+◌, ◌-◌, ◌<◌, ◌≤◌, min, suc, zero, ℕ}
 use native.Mathlib.Decide.{dec_le, dec_lt, ℕ_discrete}
 use native.Mathlib.Numerals.{add-one}
 use native.Mathlib.Omega.{arith}
 use lib.ListN.{drop, drop_of_length-le, length, length-append, take}
 use lib.Seq.{drop-append_seam, take-append_seam, take_all}
 use borrow.Author.Tests.{eq-eqb, le-ltb, lt-leb, lt-ltb, ne_eqb}
-use Rattle.std.proofs.lemmas.List.{nil_from_length}
+use Rattle.std.proofs.lemmas.List.{nil_from_length, take_rest}
 use Rattle.circuit.proofs.Judging.{refuse_done, refused, wires_well}
 use Rattle.circuit.specs.Faults.{list_length, malformed, refuse, wire_count, wires_fault}
 use Rattle.circuit.specs.Limits.{max_gates, max_wires}
@@ -127,6 +127,10 @@ module _ {lines : List ℕ} {size i : ℕ} {rest : List ℕ} (p : PassedTo lines
 
 -- ---- line one
 
+-- the gate lines as the code cuts them off
+abbrev pub gate_lines_in : List ℕ → List ℕ
+gate_lines_in t = take (length t - wires_line_bytes) (drop wires_line_bytes t)
+
 pub one_wrong : (t : List ℕ) → first_formed wires_digits (lines_of t) ≡ false → lines_fault (lines_of t) ≡ Refused malformed 1
 one_wrong t = go (lines_of t)
   where
@@ -160,8 +164,8 @@ module _ (t : List ℕ) (e : first_formed wires_digits (lines_of t) ≡ true) wh
     pub count_refused : f ≢ 0 → Refused f 0 ≡ lines_fault (lines_of t)
     count_refused h = sym (by_fault ∙ refused f 0 (fault_from t wires_line_bytes 0) h)
 
-    pub count_passed : f ≡ 0 → fault_from t wires_line_bytes 0 ≡ lines_fault (lines_of t)
-    count_passed h = sym (by_fault ∙ rw h)
+    pub count_passed : {found : Reply} → f ≡ 0 → found ≡ gates_fault 0 (lines_of (gate_lines_in t)) → found ≡ lines_fault (lines_of t)
+    count_passed h g = (rw (take_rest t wires_line_bytes) at g) ∙ sym (by_fault ∙ rw h)
 
 -- ---- no fault: what the loop that stores leans on
 

@@ -1,10 +1,10 @@
 -- One law for each way out of the entry `read_text`, by what its judge found: the reply, and the lent gates as it says.
 use mathlib.Core.List.{List}
 use mathlib.Core.Path.{◌∙◌, ◌≡◌, ap, ap₂, refl, sym}
-use Prim.Native.Nat.{◌-◌, ◌/◌, ◌<◌, ◌≤◌, suc, zero, ℕ}
+use Prim.Native.Nat.{◌/◌, ◌<◌, ◌≤◌, suc, zero, ℕ}
 use native.Mathlib.Omega.{arith}
 use lib.Dec.{eqb}
-use lib.ListN.{drop, length, take}
+use lib.ListN.{length}
 use Rattle.std.specs.Prelude.{Err, Ok, Result, cond}
 use Rattle.std.proofs.lemmas.List.{take_rest}
 use Rattle.circuit.proofs.Judging.{refuse_done, refused_not_done, short_pass}
@@ -18,17 +18,13 @@ use Rattle.circuit.specs.declared.faults.Fault.TheVariants.{BadMove, GateKind, G
 use Rattle.circuit.specs.declared.faults.Fault.TheVariants.{SameWire, SecondList, TableRule, WireCount}
 use Rattle.circuit.specs.declared.faults.Refusal.{Refusal}
 use Rattle.text.proofs.Storing.{bytes_from}
-use Rattle.text.proofs.TextFaults.{gates_done, one_formed_done, one_long, read_circuit}
+use Rattle.text.proofs.TextFaults.{gate_lines_in, gates_done, one_formed_done, one_long, read_circuit}
 use Rattle.text.specs.Entry.{ReadText, count_of, fault_said, gates_said, read_into, read_text_fault, wires_of, wires_said}
 use Rattle.text.specs.Limits.{wires_digits, wires_line_bytes}
 use Rattle.text.specs.Lines.{byte_at, lines_decoded, lines_of}
 use Rattle.text.specs.Placed.{Stores}
 use Rattle.text.specs.Text.{Text, circuit, faulty, gates_fault, lines_fault, lines_say, read_text, unless_refused}
 use Rattle.text.specs.declared.Circuit.{Circuit}
-
--- the gate lines as the code cuts them off
-abbrev gate_lines_in : List ℕ → List ℕ
-gate_lines_in t = take (length t - wires_line_bytes) (drop wires_line_bytes t)
 
 -- a text refused for the fault of the call, else for its own, is refused for the first of them
 joined : (f : ℕ) (found : Reply) (x : Text) → unless_refused (call_reply f) (unless_refused found x) ≡ unless_refused (refuse f 0 found) x
@@ -71,7 +67,7 @@ module _ (t g : List ℕ) where
 -- ---- the reply whole
 
 -- the fault of that number
-abbrev fault_of : ℕ → Fault
+abbrev pub fault_of : ℕ → Fault
 fault_of f =
     cond (eqb f wire_count) WireCount
     (cond (eqb f list_length) ListLength
@@ -85,7 +81,7 @@ fault_of f =
     (cond (eqb f bad_move) BadMove
     SecondList)))))))))
 
-of_number : (f : Fault) → fault_of (number f) ≡ f
+pub of_number : (f : Fault) → fault_of (number f) ≡ f
 of_number WireCount = refl
 of_number ListLength = refl
 of_number GateKind = refl

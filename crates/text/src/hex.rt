@@ -14,7 +14,7 @@ pub fn is_digit(b: u8) -> bool
     matches!(b, b'0'..=b'9' | b'a'..=b'f')
 }
 
-// The number that a digit stands for; 0 for another byte.
+// The number that a digit stands for; 0 for another byte. It is no Option: the definition says 0 too, and `is_digit` has been asked before.
 #[tactic(auto, using(std::proofs::lemmas::Bool::Decides::nat_tests), unfolding(crate::specs::Hex::value_of))]
 pub fn value_of(b: u8) -> u8
     ensures { (result ≡ value_of b) × (result < 16) }
@@ -35,8 +35,8 @@ fn last_digit(v: usize) -> u8
     DIGITS[v % 16]
 }
 
-// The last two digits of a number. Printed by hand: what `write!` promises speaks of its Ok alone, so a function that cannot fail cannot
-// rest on it (tried: the arm of the Err stays open).
+// The last two digits of a number. Printed by hand: the crate `hex` would serve, but the library stands on `std` alone (README, "What is
+// assumed"; scripts/test-axioms). What `write!` promises speaks of its Ok alone, so that the arm of its Err stays open.
 pub fn two_digits(v: usize) -> [u8; 2]
     ensures { result ≡ hex2 v }
 {

@@ -1,10 +1,10 @@
 // A text judged line by line, and its gates stored (document 01, "Text form").
-ghost use Rattle.std.specs.Prelude.{◌≡◌, ◌≤◌, drop, length};
+ghost use Rattle.std.specs.Prelude.{◌≡◌, ◌≤◌, IfOk, length};
 ghost use Rattle.circuit.specs.Limits.{max_list_bytes};
 ghost use Rattle.circuit.specs.Replies.{Done};
 ghost use Rattle.circuit.specs.Told.{told};
 ghost use Rattle.text.specs.Entry.{read_text_fault};
-ghost use Rattle.text.specs.Lines.{first_formed, gate_decoded_at, lines_decoded, lines_of, pair};
+ghost use Rattle.text.specs.Lines.{byte_at, first_formed, gate_decoded_at, lines_decoded, lines_of, pair};
 ghost use Rattle.text.specs.Placed.{Stores};
 ghost use Rattle.text.specs.Text.{gates_fault, lines_fault};
 
@@ -13,11 +13,14 @@ use crate::limits::{GATE_DIGITS, GATE_LINE_BYTES, WIRES_DIGITS, WIRES_LINE_BYTES
 use circuit::faults::{Fault, Refusal};
 use circuit::gates::Gate;
 use circuit::limits::{GATE_BYTES, MAX_GATES, MAX_LIST_BYTES};
+use circuit::wires::Wires;
 use judges::faults::{check_room, check_wires};
 
-// The first fault of a call: 8 by the length of the gates lent, then that of the text.
-pub fn check_text(text: &[u8], lent: usize) -> Result<(), Refusal>
-    ensures { told result ≡ read_text_fault lent text.now }
+// The first fault of a call: 8 by the length of the gates lent, then that of the text. Without one the wire count is given back, n of line
+// one.
+pub fn check_text(text: &[u8], lent: usize) -> Result<Wires, Refusal>
+    ensures reply { told result ≡ read_text_fault lent text.now }
+    ensures same { IfOk result (λ wires. wires.count ≡ byte_at text.now 0) }
 {
     check_room(lent, MAX_LIST_BYTES)?;
     check_lines(text)
@@ -25,8 +28,9 @@ pub fn check_text(text: &[u8], lent: usize) -> Result<(), Refusal>
 
 // The first fault of a text: of line one its form, then the count; then the gate lines.
 #[tactic(auto, using(crate::proofs::TextFaults::one_long))]
-fn check_lines(text: &[u8]) -> Result<(), Refusal>
-    ensures { told result ≡ lines_fault (lines_of text.now) }
+fn check_lines(text: &[u8]) -> Result<Wires, Refusal>
+    ensures reply { told result ≡ lines_fault (lines_of text.now) }
+    ensures same { IfOk result (λ wires. wires.count ≡ byte_at text.now 0) }
 {
     if !line_formed(text, WIRES_DIGITS) {
         return Err(Refusal {
@@ -34,8 +38,9 @@ fn check_lines(text: &[u8]) -> Result<(), Refusal>
             place: 1,
         });
     }
-    check_wires(usize::from(pair(text[0], text[1])))?;
-    check_gate_lines(&text[WIRES_LINE_BYTES..])
+    let wires = check_wires(usize::from(pair(text[0], text[1])))?;
+    check_gate_lines(&text[WIRES_LINE_BYTES..])?;
+    Ok(wires)
 }
 
 // The gate lines in order. Gate line i, counted from 0, is line i + 2 of the text.

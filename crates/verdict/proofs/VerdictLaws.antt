@@ -6,7 +6,7 @@ use Prim.Native.Nat.{◌+◌, ◌≤◌, ℕ}
 use native.Mathlib.Omega.{arith}
 use lib.ListN.{drop, get_or, length, take}
 use lib.Seq.{length-take-le, take-append_seam}
-use Rattle.std.specs.Prelude.{Err, Ok, Result}
+use Rattle.std.specs.Prelude.{Err, Ok, Option, Result}
 use Rattle.circuit.proofs.Placing.{placed_kept}
 use Rattle.circuit.specs.Faults.{Accepted}
 use Rattle.circuit.specs.Gate.{gates_of}
@@ -22,11 +22,11 @@ use Rattle.text.specs.Limits.{refused_line_bytes, text_bytes}
 use Rattle.text.specs.Text.{Text, circuit, read_text}
 use Rattle.text.specs.Written.{differ_line, refused_line, same_line}
 use Rattle.verdict.specs.Verdicts.{Prints, VerdictOn, bytes_of, compared, first_faulty, line_of, other_wires, second_faulty}
-use Rattle.verdict.specs.declared.Texts.{Texts}
 use Rattle.verdict.specs.declared.Verdict.{Verdict}
+use Rattle.verdict.specs.declared.Which.{Which}
 
 -- the first bytes of each text decide
-pub first_bytes_suffice : (t u was left : List ℕ) (v : Verdict)
+pub first_bytes_suffice : (t u was left : List ℕ) (v : Option Verdict)
     → VerdictOn (read_text (take text_bytes t)) (read_text (take text_bytes u)) was left v
     → VerdictOn (read_text t) (read_text u) was left v
 first_bytes_suffice t u was left v d = rw (first_bytes_decide t, first_bytes_decide u) d
@@ -34,7 +34,7 @@ first_bytes_suffice t u was left v d = rw (first_bytes_decide t, first_bytes_dec
 -- ---- what the program writes: the bytes that are counted, from the start of those lent
 
 -- they stand within these, and are the line
-pub record Shows (v : Verdict) (left line : List ℕ) : Type 0 where
+pub record Shows (v : Option Verdict) (left line : List ℕ) : Type 0 where
   pub inside : bytes_of v ≤ length left
   pub whole : bytes_of v ≡ length (take (bytes_of v) left)
   pub is : take (bytes_of v) left ≡ line
@@ -44,7 +44,8 @@ line_short (Ok Same) = omega arith
 line_short (Ok Differ) = omega arith
 line_short (Err refusal) = omega arith
 
-shows : {line was left : List ℕ} {named : Texts} {v : Verdict} → Prints line named was left v → length line ≤ length was → Shows v left line
+shows : {line was left : List ℕ} {named : Option Which} {v : Option Verdict} → Prints line named was left v → length line ≤ length was
+    → Shows v left line
 shows {line} {was} {left} {named} {v} p h =
     let k : bytes_of v ≡ length line = ap bytes_of p.tells in
     let fits : bytes_of v ≤ length left = omega (arith, ap length p.stands, (placed_kept was line h).long) in
@@ -68,7 +69,7 @@ pub record Circuits (P : ℕ → List ℕ → List ℕ → Type 0) (t u : Text) 
   pub holds : P n first second
 
 -- the line that a verdict shows
-pub shown : {t u : Text} {was left : List ℕ} {v : Verdict} → VerdictOn t u was left v → refused_line_bytes ≤ length was
+pub shown : {t u : Text} {was left : List ℕ} {v : Option Verdict} → VerdictOn t u was left v → refused_line_bytes ≤ length was
     → (line : List ℕ) × Shows v left line
 shown (first_faulty p) h = (_, shows p (omega arith))
 shown (second_faulty p) h = (_, shows p (omega arith))
@@ -81,7 +82,7 @@ module _ (R : Result Compared Refusal) (P : ℕ → List ℕ → List ℕ → Ty
     → (r ≡ R) ↔ (Accepted n first × Accepted n second × P n first second))
     (tells : (r : Result Compared Refusal) → line_of r ≡ line_of R → r ≡ R) (some : [] ≡ line_of R → ⊥)
     (sound : (fault place : ℕ) → refused_line fault place ≡ line_of R → ⊥) where
-  there : {t u : Text} {was left : List ℕ} {v : Verdict} → VerdictOn t u was left v → refused_line_bytes ≤ length was
+  there : {t u : Text} {was left : List ℕ} {v : Option Verdict} → VerdictOn t u was left v → refused_line_bytes ≤ length was
       → take (bytes_of v) left ≡ line_of R → Circuits P t u
   there (first_faulty {number = f} {place = i} p) h e = absurd (sound f i (sym (shows p (omega arith)).is ∙ e))
   there (second_faulty {number = f} {place = i} p) h e = absurd (sound f i (sym (shows p (omega arith)).is ∙ e))
@@ -100,7 +101,7 @@ module _ (R : Result Compared Refusal) (P : ℕ → List ℕ → List ℕ → Ty
         holds = a.2;
       }
 
-  back : {t u : Text} {was left : List ℕ} {v : Verdict} → VerdictOn t u was left v → refused_line_bytes ≤ length was → Circuits P t u
+  back : {t u : Text} {was left : List ℕ} {v : Option Verdict} → VerdictOn t u was left v → refused_line_bytes ≤ length was → Circuits P t u
       → take (bytes_of v) left ≡ line_of R
   back (first_faulty p) h c = let z : ◌≡◌ {A = ℕ} 0 1 = cc c.first_is in absurd (omega arith)
   back (second_faulty p) h c = let z : ◌≡◌ {A = ℕ} 0 1 = cc c.second_is in absurd (omega arith)
@@ -118,7 +119,7 @@ module _ (R : Result Compared Refusal) (P : ℕ → List ℕ → List ℕ → Ty
       (shows p.prints (omega (arith, line_short p.reply))).is
       ∙ ap line_of ((exactly n first second p.reply p.compared).1 (x, y, w))
 
-  shown_exactly : {t u : Text} {was left : List ℕ} {v : Verdict} → VerdictOn t u was left v → refused_line_bytes ≤ length was
+  shown_exactly : {t u : Text} {was left : List ℕ} {v : Option Verdict} → VerdictOn t u was left v → refused_line_bytes ≤ length was
       → (take (bytes_of v) left ≡ line_of R) ↔ Circuits P t u
   shown_exactly d room = (there d room, back d room)
 
@@ -139,7 +140,7 @@ differ_told (Ok Same) e = absurd (other_line same_line differ_line (omega arith)
 differ_told (Ok Differ) e = refl
 differ_told (Err x) e = absurd (other_line (refused_line (number x.fault) x.place) differ_line (omega arith) e)
 
-module _ {t u : Text} {was left : List ℕ} {v : Verdict} (d : VerdictOn t u was left v) (room : refused_line_bytes ≤ length was) where
+module _ {t u : Text} {was left : List ℕ} {v : Option Verdict} (d : VerdictOn t u was left v) (room : refused_line_bytes ≤ length was) where
   -- `same` is written exactly where both texts are circuits without a fault, on the same wires, that act alike
   pub same_shown : (take (bytes_of v) left ≡ same_line) ↔ Circuits (λ n first second. SameAction n (gates_of first) (gates_of second)) t u
   same_shown =

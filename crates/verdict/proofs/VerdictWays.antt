@@ -1,59 +1,54 @@
--- One law for each way out of the functions of this crate: what the text reader and `compare` reply, and the line written for it.
+-- One law for each way out of `read` and `judge`: what the text reader and `compare` reply, and the line that is printed for it.
 use mathlib.Core.List.{List}
-use mathlib.Core.Path.{◌≡◌, subst}
-use Prim.Native.Nat.{◌*◌, ◌≤◌, ℕ}
-use lib.ListN.{length, take}
-use Rattle.std.specs.Prelude.{Err, Ok, Result}
-use Rattle.circuit.specs.Limits.{gate_bytes, max_list_bytes}
+use mathlib.Core.Path.{◌≡◌, refl}
+use mathlib.Core.Logic.{◌≢◌}
+use Prim.Native.Nat.{◌≤◌, ℕ}
+use lib.ListN.{length}
+use Rattle.std.specs.Prelude.{Err, MatchResult, None, Ok, Result, Some}
+use Rattle.circuit.specs.Limits.{max_list_bytes}
 use Rattle.circuit.specs.Told.{number}
 use Rattle.circuit.specs.declared.faults.Refusal.{Refusal}
 use Rattle.compare.specs.Entry.{ComparesLists}
 use Rattle.compare.specs.declared.Compared.{Compared}
-use Rattle.text.proofs.TextLaws.{circuit_said, fault_said_lem}
+use Rattle.text.proofs.TextLaws.{circuit_left, done_reads, fault_said_lem}
 use Rattle.text.specs.Entry.{ReadText}
-use Rattle.text.specs.Text.{Text, circuit, read_text}
-use Rattle.text.specs.Written.{refused_line}
+use Rattle.text.specs.Text.{Text, circuit, faulty, read_text}
 use Rattle.text.specs.declared.Circuit.{Circuit}
-use Rattle.verdict.specs.Verdicts.{Prints, VerdictOn, compared, first_faulty, line_of, named_of, second_faulty}
-use Rattle.verdict.specs.declared.Texts.{Texts}
-use Rattle.verdict.specs.declared.Texts.TheVariants.{First, Second}
-use Rattle.verdict.specs.declared.Verdict.{Verdict}
+use Rattle.verdict.specs.Judged.{JudgedAs, ReadAs, of_list}
+use Rattle.verdict.specs.Verdicts.{compared, first_faulty, other_wires, second_faulty}
+use Rattle.verdict.specs.declared.Refused.{Refused}
+use Rattle.verdict.specs.declared.Which.{Which}
+use Rattle.verdict.specs.declared.Which.TheVariants.{First, Second}
 
--- ---- the texts
+-- what the text reader replied, and of which text
+pub read_as : {t gates gates' : List ℕ} (which : Which) (r : Result Circuit Refusal) (s : Result Circuit Refused)
+    → ReadText t gates gates' r → max_list_bytes ≤ length gates
+    → MatchResult r (λ c. s ≡ Ok c) (λ refusal. s ≡ Err (record { text = which; refusal = refusal }))
+    → ReadAs which (read_text t) gates' s
+read_as {t} {gates} {gates'} which (Ok c) s p room e = let d = done_reads t gates gates' c p in rw e (d.says, circuit_left d)
+read_as which (Err refusal) s p room e = rw e (fault_said_lem p room refl, refl)
 
-module _ {t gates gates' : List ℕ} {r : Result Circuit Refusal} (p : ReadText t gates gates' r) {was left : List ℕ} where
-  -- the first is a circuit, or faulty
-  module _ {u : Text} where
-    pub first_read : {c : Circuit} {v : Verdict} → r ≡ Ok c → VerdictOn (circuit c.wires (take (gate_bytes * c.gates) gates')) u was left v
-        → VerdictOn (read_text t) u was left v
-    first_read is w = rw (circuit_said p is).says w
+module _ {t u : Text} where
+  -- the first text is faulty
+  pub first_refused : {x : Refused} → t ≡ faulty (number x.refusal.fault) x.refusal.place → x.text ≡ First → JudgedAs t u (Err x)
+  first_refused is of = record { printed = λ w. rw is (first_faulty (rw of at w)) }
 
-    pub first_refused : {refusal : Refusal} {line : List ℕ} {v : Verdict} → max_list_bytes ≤ length gates → r ≡ Err refusal
-        → line ≡ refused_line (number refusal.fault) refusal.place → Prints line First was left v → VerdictOn (read_text t) u was left v
-    first_refused room is e w = rw (fault_said_lem p room is) (first_faulty (rw e at w))
+  module _ {n : ℕ} {first : List ℕ} (one : t ≡ circuit n first) where
+    -- it is a circuit, and the second faulty
+    pub second_refused : {x : Refused} → u ≡ faulty (number x.refusal.fault) x.refusal.place → x.text ≡ Second → JudgedAs t u (Err x)
+    second_refused is of = record { printed = λ w. rw (one, is) (second_faulty (rw of at w)) }
 
-  -- the second is, beside a circuit
-  module _ {n : ℕ} {first : List ℕ} where
-    pub second_read : {c : Circuit} {v : Verdict} → r ≡ Ok c
-        → VerdictOn (circuit n first) (circuit c.wires (take (gate_bytes * c.gates) gates')) was left v
-        → VerdictOn (circuit n first) (read_text t) was left v
-    second_read is w = rw (circuit_said p is).says w
+    module _ {m : ℕ} {second : List ℕ} (other : u ≡ circuit m second) where
+      -- both are circuits, on different wires
+      pub apart : n ≢ m → JudgedAs t u (Ok None)
+      apart ne = record { printed = λ w. rw (one, other, w.0, w.1) (other_wires ne) }
 
-    pub second_refused : {refusal : Refusal} {line : List ℕ} {v : Verdict} → max_list_bytes ≤ length gates → r ≡ Err refusal
-        → line ≡ refused_line (number refusal.fault) refusal.place → Prints line Second was left v
-        → VerdictOn (circuit n first) (read_text t) was left v
-    second_refused room is e w = rw (fault_said_lem p room is) (second_faulty (rw e at w))
+      -- or on the same, and compared
+      module _ (same : n ≡ m) where
+        pub lists_compared : {x : Compared} → ComparesLists n first second (Ok x) → JudgedAs t u (Ok (Some x))
+        lists_compared {x} c =
+            record { printed = λ w. rw (one, other, ← same) (compared (record { reply = Ok x; compared = c; prints = w })) }
 
--- ---- two circuits
-
-pub same_wires : {n m : ℕ} {first second line was left : List ℕ} {reply : Result Compared Refusal} {named : Texts} {v : Verdict}
-    (is : Result Compared Refusal) → n ≡ m → ComparesLists n first second reply → reply ≡ is → line ≡ line_of is → named ≡ named_of is
-    → Prints line named was left v → VerdictOn (circuit n first) (circuit m second) was left v
-same_wires {n} {m} {first} {second} is e c told says names w =
-    rw (← e)
-    (compared
-    (record {
-      reply = is;
-      compared = subst (λ (x : Result Compared Refusal). ComparesLists n first second x) told c;
-      prints = rw (says, names) at w;
-    }))
+        pub list_refused : {refusal : Refusal} → ComparesLists n first second (Err refusal) → JudgedAs t u (Err (of_list refusal))
+        list_refused {refusal} c =
+            record { printed = λ w. rw (one, other, ← same) (compared (record { reply = Err refusal; compared = c; prints = w })) }

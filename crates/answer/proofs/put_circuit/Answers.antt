@@ -3,31 +3,21 @@ use native.Mathlib.Omega.{arith}
 use Rattle.answer.proofs.AnswerWays.{counted, gate_printed, gates_left, gates_within, lends, trim_printed}
 use Rattle.answer.proofs.put_circuit.Goals as goal
 
-pub overflow_mul-list : goal.overflow_mul-list
-overflow_mul-list c =
-    let h =
-    gates_within (lends c.requires.1 (omega arith) (omega arith)) c.trim.ensures c.in-Ok.is in
-    record { fits = omega (arith, h) }
-
-pub slice_bounds-list-end : goal.slice_bounds-list-end
-slice_bounds-list-end c =
+pub list-requires : goal.list-requires
+list-requires c =
     gates_left (lends c.requires.1 (omega arith) (omega arith)) c.trim.ensures c.in-Ok.is
-
-pub slice_bounds-put_trimmed-end : goal.slice_bounds-put_trimmed-end
-slice_bounds-put_trimmed-end c =
-    counted (lends c.requires.1 (omega arith) (omega arith)) c.trim.ensures c.in-Ok.is
 
 pub put_trimmed-requires : goal.put_trimmed-requires
 put_trimmed-requires c =
     let h = counted (lends c.requires.1 (omega arith) (omega arith)) c.trim.ensures c.in-Ok.is in
     let w =
     gates_within (lends c.requires.1 (omega arith) (omega arith)) c.trim.ensures c.in-Ok.is in
-    omega (arith, h, w, c.requires.0)
+    rw c.list.ensures (omega (arith, h, w, c.requires.0))
 
 pub returns-in-Ok : goal.returns-in-Ok
 returns-in-Ok c =
     trim_printed (lends c.requires.1 (omega arith) (omega arith)) c.trim.ensures c.in-Ok.is
-    c.put_trimmed.ensures
+    (rw c.list.ensures at c.put_trimmed.ensures)
 
 pub returns-in-Err : goal.returns-in-Err
 returns-in-Err c =

@@ -4,32 +4,18 @@ use Rattle.text.proofs.TextLaws.{circuit_left, circuit_said}
 use Rattle.answer.proofs.AnswerWays.{circuit_printed, fault_printed}
 use Rattle.answer.proofs.put_reply.Goals as goal
 
-pub overflow_mul-gates : goal.overflow_mul-gates
-overflow_mul-gates c =
-    let t = c.read_text in
-    let s = circuit_said t.ensures c.in-Ok.is in
-    record { fits = omega (arith, s.few) }
-
-pub slice_bounds-gates-end : goal.slice_bounds-gates-end
-slice_bounds-gates-end c =
-    let t = c.read_text in
-    circuit_left (circuit_said t.ensures c.in-Ok.is)
-
-pub slice_bounds-put_circuit-end : goal.slice_bounds-put_circuit-end
-slice_bounds-put_circuit-end c =
-    let t = c.read_text in
-    let s = circuit_said t.ensures c.in-Ok.is in
-    omega (arith, s.long)
+pub list-requires : goal.list-requires
+list-requires c = circuit_left (circuit_said c.read_text.ensures c.in-Ok.is)
 
 pub put_circuit-requires : goal.put_circuit-requires
 put_circuit-requires c =
     let s = circuit_said c.read_text.ensures c.in-Ok.is in
-    (c.requires, s.sayable)
+    rw c.list.ensures (c.requires, s.sayable)
 
 pub returns-in-Ok : goal.returns-in-Ok
 returns-in-Ok c =
     let t = c.read_text in
-    circuit_printed t.ensures c.in-Ok.is c.put_circuit.ensures
+    circuit_printed t.ensures c.in-Ok.is (rw c.list.ensures at c.put_circuit.ensures)
 
 pub returns-in-Err : goal.returns-in-Err
 returns-in-Err c =

@@ -5,6 +5,6 @@ pub returns : goal.returns
 returns c =
     let are = c.into.ensures in
     record {
-      called = record { reply = c.compare.result; promise = c.compare.ensures; number_is = are.0; place_is = are.1 };
-      same_is = are.2;
+      called = record { reply = c.compare.result; promise = c.compare.ensures; number_is = are.0.0; place_is = are.0.1 };
+      same_is = are.1;
     }
