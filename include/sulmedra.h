@@ -15,7 +15,7 @@
  * Stack. A thread with SULMEDRA_STACK_BYTES of stack can make every call, whatever the arguments. No function of the library calls
  * itself, and no frame depends on an argument. tests/c/test_stack.c measures each call on a thread whose stack was painted before, and
  * holds sulmedra_answer below 49,152 bytes and every other function below 16,384. No call allocates memory or asks anything of the system;
- * of the C library the functions need memcpy, memmove and memset alone.
+ * of the C library the functions need memcpy and memset alone.
  */
 #ifndef SULMEDRA_H
 #define SULMEDRA_H

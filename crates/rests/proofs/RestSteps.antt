@@ -4,6 +4,7 @@ use mathlib.Core.Logic.{◌≢◌}
 use mathlib.Core.Path.{ap, refl, sym, ◌∙◌, ◌≡◌}
 use Prim.Native.Nat.{◌%◌, ◌*◌, ◌+◌, ◌<◌, ◌^◌, suc, zero, ℕ, ◌≤◌}
 use native.Mathlib.Decide.{ℕ_discrete}
+use native.Mathlib.Nat.{add-zero, mod-eq_of_lt}
 use native.Mathlib.Numerals.{add-one}
 use native.Mathlib.Omega.{arith}
 use lib.Count.{ones}
@@ -20,6 +21,7 @@ use Rattle.circuit.specs.Sound.{SoundMarks, SoundWeights, weight}
 use Rattle.gf2.proofs.Bit.{bit-pow_other}
 use Rattle.gf2.proofs.Sum.{sum-ext}
 use Rattle.gf2.proofs.Superset.{with_bit}
+use Rattle.gf2.specs.Over.{Below}
 use Rattle.gf2.specs.Sum.{sum}
 use Rattle.phase.proofs.Lists.{Wide, marks_weights, same_list, wide}
 use Rattle.phase.proofs.NewWeights.{new_high, new_low, new_sound}
@@ -117,6 +119,18 @@ rests_next {n} {k} {s} {out₀} {out} x t l e =
     go : (p : ℕ) → p < k + 1 → Dec (p ≡ k) → weight (set out k x) p ≡ (weight out₀ p + rest_by n s p) % 8
     go p h (yes d) = rw d (get_or-set_same out k x 0 l ∙ e ∙ ap (λ (y : ℕ). (y + rest_by n s k) % 8) (t.onward k (omega arith)))
     go p h (no ne) = get_or-set_other out k p x 0 ne ∙ t.added p (omega arith)
+
+-- and numbers below 8 are so in the front
+pub below_take : (k : ℕ) (out : List ℕ) → Below 8 out → Below 8 (take k out)
+below_take k out small i l = grind (arith, places, small i (grind (arith, places)))
+
+-- a number below 8 has its rest where there are more than two wires
+pub rests_stay : {n k : ℕ} {s out₀ out : List ℕ} (o : ℕ) → RestsTo n s k out₀ out → Below 8 out₀ → k < length out → o ≡ ones k → 2 < o
+    → weight out k ≡ (weight out k + rest_by n s k) % 8
+rests_stay {n} {k} {s} {out₀} {out} o t small l is more =
+    let none = rest_more_wires n s k (omega (arith, is)) (omega (arith, is)) in
+    let here : weight out k < 8 = rw (t.onward k (omega arith)) (small k (omega (arith, t.as_long))) in
+    rw (← none, add-zero (weight out k)) (sym (mod-eq_of_lt here))
 
 -- the front, with its rests, stands in its place
 pub rests_end : {n k : ℕ} {s out front : List ℕ} → k ≤ length out → RestsTo n s k (take k out) front

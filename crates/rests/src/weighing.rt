@@ -3,6 +3,7 @@
 // marks, modulo 8; at two wires it is minus the same of q, modulo 4.
 ghost use Rattle.std.specs.Prelude.{◌≢◌, ◌≡◌, ◌%◌, ◌+◌, ◌*◌, ◌<◌, ◌≤◌, ◌^◌, length};
 ghost use Rattle.std.specs.Int.Count.{ones};
+ghost use Rattle.gf2.specs.Over.{Below};
 ghost use Rattle.gf2.specs.Sum.{sum};
 ghost use Rattle.circuit.specs.Limits.{parities};
 ghost use Rattle.circuit.specs.Sound.{SoundMarks, SoundWeights, weight};
@@ -27,9 +28,18 @@ pub fn put_new_weights(
 {
     let mut room = [0; TABLE_BYTES];
     let s = difference_sums(wires, w, u, &mut room);
-    out.copy_from_slice(u);
+    put_marks(u, out);
     let sums = SumTable { wires, s };
     sums.add_rests(out);
+}
+
+// The marks, byte by byte: copied as slices or as arrays, they would need `memmove` of the C library.
+fn put_marks(u: &[Mark; TABLE_BYTES], out: &mut [Weight; TABLE_BYTES])
+    ensures { out.new ≡ u.now }
+{
+    for (p, x) in out.iter_mut().enumerate() {
+        *x = u[p];
+    }
 }
 
 // The sums on the parities of n wires. That a place p is one of them stands in clauses: it is the number of a loop over them.
@@ -41,12 +51,15 @@ struct SumTable<'a> {
 }
 
 impl SumTable<'_> {
-    // The rest of each parity of n wires is added.
+    // The rest of each parity of n wires is added. Most name more than two wires, have none, and are not stored again.
     fn add_rests(&self, out: &mut [Weight; TABLE_BYTES])
+        requires { Below 8 out.old }
         ensures { RestsTo self.now.wires.count self.now.s.now (2 ^ self.now.wires.count) out.old out.new }
     {
         for (p, x) in out[..self.s.len()].iter_mut().enumerate() {
-            *x = with_rest(*x, self.rest(p));
+            if wires_of(p as Parity) <= 2 {
+                *x = with_rest(*x, self.rest(p));
+            }
         }
     }
 

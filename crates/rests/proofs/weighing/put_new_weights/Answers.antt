@@ -14,4 +14,4 @@ returns c =
     let a = c.requires in
     let n = c.args.wires.count in
     let room : 2 ^ n ≤ parities = pow_mono {i = n} {j = max_wires} c.args.wires.few in
-    new_made room a.0 a.1 c.difference_sums-s.ensures c.copy_from_slice.ensures.after c.add_rests.ensures
+    new_made room a.0 a.1 c.difference_sums-s.ensures c.put_marks.ensures c.add_rests.ensures
