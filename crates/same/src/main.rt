@@ -74,12 +74,10 @@ fn has_arguments<R: Env>(rt: &R) -> bool {
     is_there(ARGUMENTS - 1) && !is_there(ARGUMENTS)
 }
 
-// The first bytes of the file that an argument names, as many as decide.
-fn read_file<'a, R: Env + Files>(
-    rt: &R,
-    argument: usize,
-    buf: &'a mut [u8],
-) -> Result<&'a [u8], Failure> {
+// The first bytes of the file that an argument names, as many as decide, and how many they are.
+fn read_file<R: Env + Files>(rt: &R, argument: usize, buf: &mut [u8]) -> Result<usize, Failure>
+    ensures { IfOk result (λ bytes. bytes ≤ length buf.new) }
+{
     let mut room = [0u8; NAME_BYTES];
     let name = put_name(rt, argument, &mut room).map_err(Failure::Name)?;
     let file = open(rt, &name[PREFIX.len()..]).map_err(|error| Failure::File { argument, error })?;
@@ -93,8 +91,9 @@ fn open<R: Files>(rt: &R, name: &[u8]) -> io::Result<R::File> {
 }
 
 // The file is closed before another is opened: where standard input was closed, /dev/stdin would else be this file once more.
-fn read_and_close<F: Read + Drop>(mut file: F, buf: &mut [u8]) -> io::Result<&[u8]>
-    ensures { IfOk result (λ text. Starts (F.remaining file) (length buf.old) text.now) }
+fn read_and_close<F: Read + Drop>(mut file: F, buf: &mut [u8]) -> io::Result<usize>
+    ensures within { IfOk result (λ bytes. bytes ≤ length buf.new) }
+    ensures starts { IfOk result (λ bytes. Starts (F.remaining file) (length buf.new) (take bytes buf.new)) }
 {
     read_input(&mut file, buf)
 }
@@ -128,7 +127,7 @@ impl<'a, R: Env, E: Write> Teller<'a, R, E> {
         let mut second_room = [0u8; TEXT_BYTES];
         let first = read_file(self.rt, 1, &mut first_room)?;
         let second = read_file(self.rt, 2, &mut second_room)?;
-        let _ = self.reply_to(first, second, out);
+        let _ = self.reply_to(&first_room[..first], &second_room[..second], out);
         Ok(())
     }
 

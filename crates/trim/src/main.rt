@@ -33,8 +33,8 @@ fn trim_text<R: Read, W: Write>(from: &mut R, out: &mut W) -> Result<(), Failure
     ensures part { IfErr result (λ failure. LeftBy failure (R.remaining from.old) (W.contents out.old) (W.contents out.new)) }
 {
     let mut room = [0u8; TEXT_BYTES];
-    let text = read_input(from, &mut room).map_err(Failure::Reading)?;
-    reply_to(text, out).map_err(Failure::Writing)
+    let bytes = read_input(from, &mut room).map_err(Failure::Reading)?;
+    reply_to(&room[..bytes], out).map_err(Failure::Writing)
 }
 
 // Where the reply cannot be written whole, its first part may be.

@@ -26,9 +26,9 @@ module _ (had holds : Option (List ℕ)) (text : List ℕ) where
 
 -- what the first bytes decide, and holds of what was read, holds of the input
 decided : (g : given.Over) (c : goal.After-map_err-2 g) (P : List ℕ → Type 0) → ((text : List ℕ) → P (take text_bytes text) → P text)
-    → P c.in_ok-text.text.now → IfSome (g.R.Read.remaining c.args.from.now) P
+    → P (take c.in_ok-bytes.bytes c.read_input.new.buf) → IfSome (g.R.Read.remaining c.args.from.now) P
 decided g c P first =
-    let read = c.in_ok-text.text.now in
+    let read = take c.in_ok-bytes.bytes c.read_input.new.buf in
     let within : length read ≤ text_bytes = search rules in
     of_input text_bytes read within P (g.R.Read.remaining c.args.from.now) (g.R.Read.remaining c.read_input.new.from) (search rules) first
 
@@ -36,7 +36,7 @@ pub returns-clause-whole : goal.returns-clause-whole
 returns-clause-whole g c =
     let had = g.W.Write.contents c.args.out.now in
     let holds = g.W.Write.contents c.reply_to.new.out in
-    let put : OnOk c.map_err-2.result (Replies c.in_ok-text.text.now had holds) = search rules in
+    let put : OnOk c.map_err-2.result (Replies (take c.in_ok-bytes.bytes c.read_input.new.buf) had holds) = search rules in
     on_ok_weaker c.map_err-2.result (decided g c (λ text. Replies text had holds) (whole had holds)) put
 
 pub returns-clause-part : goal.returns-clause-part
