@@ -50,10 +50,11 @@ pub fn search_by(
     ensures { Searched wires.count marks.now result }
 {
     let mut list = [0; PARITIES];
+    let count = gather(wires.parities(), marks, &mut list);
     let search = Search {
         products,
         marks,
-        members: gather(wires.parities(), marks, &mut list),
+        members: &list[..count],
     };
     scan(wires, &search)
 }

@@ -79,19 +79,16 @@ block_whole b k l h =
 pub blocks_all : (b m k l : ℕ) → 0 < k → l ≡ m * k → l / k ≤ b → l ≤ b * k
 blocks_all b m k l h e g = omega (arith, mul-le-mul_right k (rw (e, mul-div_left m h) at g), e)
 
-wire_next : {i : ℕ} {s₀ s s' : List ℕ} (b : ℕ) → WireAdded i (b * (2 * 2 ^ i)) s₀ s
-    → Added (b * (2 * 2 ^ i)) (b * (2 * 2 ^ i) + 2 ^ i) (2 ^ i) s s' → WireAdded i ((b + 1) * (2 * 2 ^ i)) s₀ s'
-wire_next {i} {s₀} {s} {s'} b w a =
+pub wire_next : {i start : ℕ} {s₀ s s' : List ℕ} (b : ℕ) → start ≡ b * (2 * 2 ^ i) → WireAdded i start s₀ s
+    → Added start (start + 2 ^ i) (2 ^ i) s s' → WireAdded i (start + 2 * 2 ^ i) s₀ s'
+wire_next {i} {start} {s₀} {s} {s'} b e w a =
     record {
       as_long = a.as_long ∙ w.as_long;
-      without = λ p l z. without p (omega arith) z (dec_lt p start) (dec_lt p (start + 2 ^ i));
+      without = λ p l z. without p l z (dec_lt p start) (dec_lt p (start + 2 ^ i));
       having = λ p z. having p z (dec_lt p start) (dec_lt p (start + 2 ^ i));
       onward = λ p l. a.onward p (omega arith) ∙ w.onward p (omega arith);
     }
   where
-    start : ℕ
-    start = b * (2 * 2 ^ i)
-
     without : (p : ℕ) → p < start + 2 * 2 ^ i → bit p i ≡ 0 → Dec (p < start) → Dec (p < start + 2 ^ i)
         → weight s' p ≡ (weight s₀ p + weight s₀ (p + 2 ^ i)) % 8
     without p l z (yes g) d = a.under p g ∙ w.without p g z
@@ -108,7 +105,8 @@ pub block_next : {i start k h : ℕ} {s₀ s block : List ℕ} (b : ℕ) → h �
     → b < length s / (2 * 2 ^ i) → WireAdded i (b * (2 * 2 ^ i)) s₀ s → Added 0 h h (take k (drop start s)) block
     → WireAdded i ((b + 1) * (2 * 2 ^ i)) s₀ (put_mid start k s block)
 block_next {i} {start} {k} {h} {s₀} {s} {block} b half at long there w a =
-    rw (at, long) (wire_next b w (block_added (block_whole b (2 * 2 ^ i) (length s) there) (rw (half, at, long) at a)))
+    let more : (b + 1) * (2 * 2 ^ i) ≡ b * (2 * 2 ^ i) + 2 * 2 ^ i = omega arith in
+    rw (at, long, more) (wire_next b refl w (block_added (block_whole b (2 * 2 ^ i) (length s) there) (rw (half, at, long) at a)))
 
 pub wire_end : {i end : ℕ} {s₀ s : List ℕ} → WireAdded i end s₀ s → length s ≤ end → WireAdded i (length s₀) s₀ s
 wire_end {i} {end} {s₀} {s} w l =

@@ -25,9 +25,18 @@ pub fn difference_sums<'a>(
     ensures { DifferenceSums wires.count w.now u.now result.now }
 {
     let sums = &mut room[..wires.parities()];
-    put_difference(w, u, sums);
-    put_sums(wires, sums);
+    put_difference_sums(wires, w, u, sums);
     sums
+}
+
+// The same, in the whole of what is lent: of a room from which a result borrows, as above, no clause says what it then holds. Internal: the
+// caller lends room for these sums alone.
+pub fn put_difference_sums(wires: Wires, w: &[Weight], u: &[Weight], s: &mut [Weight])
+    requires { (length s.old ≡ 2 ^ wires.count) × Summable wires.count w.now × Summable wires.count u.now }
+    ensures { DifferenceSums wires.count w.now u.now s.new }
+{
+    put_difference(w, u, s);
+    put_sums(wires, s);
 }
 
 // w less u, modulo 8.

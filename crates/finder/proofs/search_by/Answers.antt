@@ -7,7 +7,7 @@ use Rattle.finder.proofs.search_by.Goals as goal
 pub invariant_of-search : goal.invariant_of-search
 invariant_of-search c =
     let m = c.requires in
-    let gathered = rw c.parities.ensures.0 at c.gather.ensures in
+    let gathered = rw c.parities.ensures.0 at c.gather-count.ensures.1 in
     record { listed = merely (gathered_members m.few m.sound gathered) }
 
 pub returns : goal.returns

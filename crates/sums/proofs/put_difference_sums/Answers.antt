@@ -3,7 +3,7 @@ use mathlib.Core.Path.{◌∙◌}
 use native.Mathlib.Omega.{arith}
 use Rattle.std.proofs.lemmas.Grind.{common_steps}
 use Rattle.sums.proofs.Difference.{difference_fits}
-use Rattle.sums.proofs.difference_sums.Goals as goal
+use Rattle.sums.proofs.put_difference_sums.Goals as goal
 
 pub put_sums-requires : goal.put_sums-requires
 put_sums-requires c =
