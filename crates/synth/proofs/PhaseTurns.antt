@@ -162,8 +162,8 @@ module _ {w : Writer} {p v t u : ℕ} (ready : ParityReady w p v) (some : v ≢ 
 
 -- ---- all parities
 
-parities_fit : (w : Wires) → 2 ^ w.count ≤ parities
-parities_fit w = pow_mono {i = w.count} {j = max_wires} w.few
+pub parities_fit : (n : ℕ) → n ≤ max_wires → 2 ^ n ≤ parities
+parities_fit n h = pow_mono {i = n} {j = max_wires} h
 
 pub phases_first : (to : Writer) (n : ℕ) (weights : List ℕ) → Stored to to (write_phases max_wires n weights 0)
 unfolding write_phases
@@ -174,7 +174,7 @@ module _ {to to' : Writer} {m : ℕ} (p : ℕ) (weights : List ℕ) (of : m ≡ 
     (s : Stored to to' (write_phases max_wires to.wires.count weights p)) where
   long : length (take m weights) ≡ 2 ^ to.wires.count
   long =
-      rw of (length-take-le (2 ^ to.wires.count) weights (omega (arith, ready.sound.long, parities_fit to.wires)))
+      rw of (length-take-le (2 ^ to.wires.count) weights (omega (arith, ready.sound.long, parities_fit to.wires.count to.wires.few)))
 
   pub phases_last : p ≡ length (take m weights) → Stored to to' (write_phases max_wires to.wires.count weights (2 ^ to.wires.count))
   phases_last e = rw (← long, ← e) s
@@ -194,7 +194,7 @@ module _ {to to' : Writer} {m : ℕ} (p : ℕ) (weights : List ℕ) (of : m ≡ 
     pub parity-ready : ParityReady to' p (get_or (take m weights) p 0)
     parity-ready =
         record {
-          inside = omega (arith, below, parities_fit to.wires);
+          inside = omega (arith, below, parities_fit to.wires.count to.wires.few);
           small = rw here (ready.sound.small p);
           none = λ e. here ∙ ap (weight weights) e ∙ ready.sound.none;
           room =

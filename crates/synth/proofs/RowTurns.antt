@@ -46,7 +46,7 @@ pub recount_first : (t q : ℕ) (masks : List ℕ) → Recounted t q masks masks
 recount_first t q masks = record { long = refl; filled = λ k h. absurd (omega arith); ahead = λ k h. refl }
 
 -- x is what mask i becomes
-recount_next : {t q : ℕ} {masks s s' : List ℕ} {i x : ℕ} → Recounted t q masks s i → i < length masks
+pub recount_next : {t q : ℕ} {masks s s' : List ℕ} {i x : ℕ} → Recounted t q masks s i → i < length masks
     → s' ≡ set s i x → x ≡ get_or (recount t q masks) i 0 → Recounted t q masks s' (i + 1)
 recount_next {t} {q} {masks} {s} {s'} {i} {x} h l es ex =
     record {

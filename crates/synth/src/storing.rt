@@ -1,7 +1,6 @@
 // Gates stored in lent bytes, one after the other. Internal: the caller has found no fault, so that there is room.
 ghost use Rattle.std.specs.Prelude.{[], ◌∷◌, ◌≡◌};
 ghost use Rattle.circuit.specs.Gate.{gate};
-ghost use Rattle.circuit.specs.Kinds.{kind_byte};
 ghost use Rattle.synth.specs.Storing.{Room, Stored, on_wire};
 ghost use Rattle.written.specs.Writing.{cnots};
 
@@ -33,15 +32,15 @@ impl<'a> Writer<'a> {
         }
     }
 
-    // One gate.
-    pub fn push(&mut self, kind: GateKind, a: u8, b: u8)
-        requires { Room self.old (gate (kind_byte kind) a b ∷ []) }
-        ensures { Stored self.old self.new (gate (kind_byte kind) a b ∷ []) }
+    // One gate, by its bytes.
+    pub fn push(&mut self, kind: u8, a: u8, b: u8)
+        requires { Room self.old (gate kind a b ∷ []) }
+        ensures { Stored self.old self.new (gate kind a b ∷ []) }
     {
         let i = GATE_BYTES * self.count;
         let gates = &mut *self.gates;
         // One by one: with `copy_from_slice` a list takes four times as long to write.
-        gates[i] = kind.into();
+        gates[i] = kind;
         gates[i + 1] = a;
         gates[i + 2] = b;
         self.count += 1;
@@ -53,7 +52,7 @@ impl<'a> Writer<'a> {
         ensures { Stored self.old self.new (on_wire t kinds.now) }
     {
         for &kind in kinds {
-            self.push(kind, t, 0);
+            self.push(kind.into(), t, 0);
         }
     }
 
@@ -63,7 +62,7 @@ impl<'a> Writer<'a> {
         ensures { Stored self.old self.new (cnots self.old.wires.count q t) }
     {
         for i in BitsOf::new(u64::from(q), self.wires.count) {
-            self.push(GateKind::Cnot, i as u8, t);
+            self.push(GateKind::Cnot.into(), i as u8, t);
         }
     }
 }

@@ -9,7 +9,7 @@ pub push-requires : goal.push-requires
 push-requires c = cnots_room c.loop-i.invariant c.in-Some.ensures.steps c.requires
 
 pub loop-i-preserved : goal.loop-i-preserved
-loop-i-preserved c = cnots_turn c.loop-i.invariant c.in-Some.ensures.steps c.push.ensures
+loop-i-preserved c = cnots_turn c.loop-i.invariant c.in-Some.ensures.steps (rw c.into.ensures at c.push.ensures)
 
 pub returns : goal.returns
 returns c = cnots_end c.loop-i.invariant c.in-None.ensures.steps

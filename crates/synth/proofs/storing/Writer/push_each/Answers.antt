@@ -10,7 +10,8 @@ pub push-requires : goal.push-requires
 push-requires c = kind_room c.args.t c.args.kinds.now Cnot c.loop-kind.invariant c.loop-kind-test.true c.requires
 
 pub loop-kind-preserved : goal.loop-kind-preserved
-loop-kind-preserved c = kind_turn c.args.t c.args.kinds.now Cnot c.loop-kind.invariant c.loop-kind-test.true c.push.ensures
+loop-kind-preserved c =
+    kind_turn c.args.t c.args.kinds.now Cnot c.loop-kind.invariant c.loop-kind-test.true (rw c.into.ensures at c.push.ensures)
 
 pub returns : goal.returns
 returns c = kinds_last c.args.t c.args.kinds.now Cnot c.loop-kind.invariant c.loop-kind-test.false
