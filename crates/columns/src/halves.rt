@@ -17,7 +17,7 @@ use moves::marks::mark_at;
 // The slots for the members without a wire, and, where it is known that none of their columns depends on the others, the mask of these.
 // Which members and which wire, `HalfIn` says in the clauses. As an invariant it would want both held here, and the same clauses would then
 // ask that they are those of the search: no plainer. `for_z` takes what it needs of a search, since a `Search` would ask for marks too.
-#[derive(Drop)]
+#[derive(Clone, Copy)]
 pub struct Half {
     slots: Slots,
     pub apart: Option<u64>,

@@ -7,7 +7,7 @@ use circuit::limits::PRODUCT_BITS;
 
 // The slots that the mask `filled` names hold what stands at their places in `vec`. What stands at the others means nothing, so an earlier
 // mask gives back the slots that it named.
-#[derive(Drop)]
+#[derive(Clone, Copy)]
 pub struct Slots {
     pub filled: u64,
     pub vec: [u64; PRODUCT_BITS],

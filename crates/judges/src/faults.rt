@@ -35,7 +35,7 @@ pub fn check_wires(n: usize) -> Result<Wires, Fault>
 }
 
 // Fault 2: a list of that many bytes is no number of whole gates, or too long.
-fn check_length(bytes: usize) -> Result<(), Fault>
+pub fn check_length(bytes: usize) -> Result<(), Fault>
     ensures { fault_told result ≡ list_fault bytes }
 {
     if bytes % GATE_BYTES != 0 {

@@ -29,7 +29,7 @@ pub fn value_of(b: u8) -> u8
 const DIGITS: &[u8; 16] = b"0123456789abcdef";
 
 // The last digit of a number.
-fn last_digit(v: usize) -> u8
+pub fn last_digit(v: usize) -> u8
     ensures { result ≡ digit (v % 16) }
 {
     DIGITS[v % 16]
